@@ -1,0 +1,5 @@
+pub mod LawScaling
+pub mod LawLine
+pub mod LawPattern
+pub mod LawReading
+pub mod Figures

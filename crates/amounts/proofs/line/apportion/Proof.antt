@@ -1,0 +1,36 @@
+-- `amounts::line::apportion` meets its contract. Assumes nothing.
+use Prim.Native.Nat.{_-_}
+use native.Mathlib.Omega.{arith}
+use borrow.Author.Needs.{needs}
+use Rattle.amounts.proofs.LawLine.{share-most, part-most, in-water, elsewhere}
+use Rattle.amounts.proofs.line.apportion.Statement.{statement}
+use Rattle.amounts.proofs.line.apportion.Tie as tie
+
+mul-share : tie.Need-mul-share
+mul-share c = omega (arith, share-most _ _ _ (c .pre .efficiency) (c .pre .fraction))
+
+share-requires : tie.Need-share-requires
+share-requires c κs = (share-most _ _ _ (c .pre .efficiency) (c .pre .fraction), omega arith)
+
+sub-left : tie.Need-sub-left
+sub-left c = let z = c .before in omega (arith, part-most (z .args .generated) _ _ (share-most _ _ _ (z .pre .efficiency) (z .pre .fraction)))
+
+sub-discharged : tie.Need-sub-t14
+sub-discharged c =
+    let z = c .before .before .before in
+    omega (arith, part-most (z .args .generated - c .before .before .share .result) _ _ (z .pre .reuse))
+
+returns : tie.Need-returns
+returns c =
+    let z = c .before .before .before in
+    in-water _ (z .args .efficiency) (z .args .n) (z .args .d) _ _ _ _ (c .before .if1 .taken) (z .pre .reuse) (c .before .before .share .ensures) (c .per-mille .ensures)
+
+returns-2 : tie.Need-returns-2
+returns-2 c =
+    let z = c .before .before in
+    elsewhere _ (z .args .efficiency) (z .args .n) (z .args .d) (z .args .reuse) _ _ (c .if1 .left) (c .before .share .ensures)
+
+pub apportion-spec : {M : Type 1} → statement M
+apportion-spec =
+    tie.close
+    (tie.spec mul-share (λ c. search needs) share-requires sub-left (λ c κs. search needs) sub-discharged returns returns-2)

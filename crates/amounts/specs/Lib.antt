@@ -1,0 +1,4 @@
+pub mod Rounding
+pub mod Scaling
+pub mod Line
+pub mod Reading

@@ -4,7 +4,8 @@ use Prim.Native.Nat.{ℕ, _+_, _-_, _*_, _/_, _%_, _^_, _≤_, _<_}
 use native.Mathlib.Nat.{lt-of-mul-lt-mul-right, le-of-mul-le-mul-right, mul-le-mul-left, mul-le-mul-right, mul-lt-mul-of-pos-right, lt-of-le-of-lt, div-add-mod', mod-lt, div-mul-le-self, div-lt-self}
 use native.Mathlib.Omega.{arith}
 use lib.Arith.{digits-div}
-use Rattle.amounts.specs.Scaling.{Parts, Room}
+use lib.Pow.{pow-mono}
+use Rattle.amounts.specs.Scaling.{Digit, Parts, Room}
 
 -- ---- a quotient fits. 2 ^ 64 is a variable here, so that `omega` meets no long numeral
 
@@ -67,13 +68,14 @@ pub next-parts : (b x n d q r : ℕ) → q * d + r ≡ x / b * n → (q * b + ne
 next-parts b x n d q r e =
     omega (arith, div-add-mod' (next b x n r) d, ap (λ (y : ℕ). y * n) (div-add-mod' x b), ap (λ (y : ℕ). y * b) e)
 
+-- the base is a power of two, and at least two
+pub base-two : (d k b : ℕ) → b ≡ 2 ^ k → Digit d k → (2 ≤ b) × (b * d ≤ 2 ^ 63)
+base-two d k b e D = rw e (pow-mono (D .some), D .fits)
+
 pub shorter : (x b : ℕ) → (x ≡ 0 → ⊥) → 2 ≤ b → x / b < x
 shorter x b h k = div-lt-self (omega arith) (omega arith)
 
 -- the bounds that the digit's sum wants, W = 2 ^ 64
-remainder-fits : (W b d r : ℕ) → r < d → b * d * 2 ≤ W → 0 < b → r * b < W
-remainder-fits W b d r h k p = omega (arith, mul-lt-mul-of-pos-right h p)
-
 next-fits : (W b x n d r : ℕ) → r < d → n ≤ d → b * d * 2 ≤ W → 0 < b → next b x n r < W
 next-fits W b x n d r h k l p =
     let digit : x % b < b = mod-lt x p in

@@ -1,5 +1,5 @@
 -- Proportional scaling. Assumes nothing.
-use Prim.Native.Nat.{ℕ, _+_, _*_, _/_, _^_, _<_}
+use Prim.Native.Nat.{ℕ, _+_, _*_, _/_, _^_, _≤_, _<_}
 use mathlib.Core.Path.{_≡_}
 use mathlib.Core.Bool.{cond, _&&_}
 use lib.Dec.{leb, ltb}
@@ -19,3 +19,9 @@ pub record Parts (v d q r : ℕ) : Type 0 where
 -- the quotient of v by d fits 64 bits
 unfoldable pub Room : ℕ → ℕ → Type 0
 Room v d = v < 2 ^ 64 * d
+
+-- k binary digits are at least one, and a remainder by d and a digit, each times 2 ^ k, fit 64 bits together
+pub record Digit (d k : ℕ) : Type 0 where
+  pub some : 1 ≤ k
+  pub short : k < 64
+  pub fits : 2 ^ k * d ≤ 2 ^ 63

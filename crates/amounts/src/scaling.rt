@@ -1,7 +1,7 @@
 // Proportional scaling without a wider integer: the whole part of x · n / d.
 ghost use mathlib.Core.Path.{_≡_};
 ghost use Prim.Native.Nat.{_+_, _*_, _/_, _^_, _≤_, _<_};
-ghost use Rattle.amounts.specs.Scaling.{scaledOf, Parts, Room};
+ghost use Rattle.amounts.specs.Scaling.{scaledOf, Digit, Parts, Room};
 
 // The number q · d + r, for a divisor d that both sides know.
 struct Part {
@@ -42,15 +42,46 @@ fn doubled(x: u64, m: u64, n: u64, d: u64) -> Part
     }
 }
 
-// x times n, by the digits of x in a base so small that a remainder and a digit, each times the base, fit together.
-fn by_digits(x: u64, n: u64, d: u64, base: u64) -> Part
-    requires { ⌜ (n ≤ d) × (0 < d) × (2 ≤ base) × (base * d ≤ 2 ^ 63) ⌝ }
+fn power(k: u64) -> u64
+    requires { ⌜ k < 64 ⌝ }
+    ensures { λ p. ⌜ p ≡ 2 ^ k ⌝ }
+{
+    1 << k
+}
+
+// How many binary digits of x are taken at a time: the smaller the divisor, the more. A remainder and a digit, each times the power, fit together.
+fn digits_at_once(d: u64) -> u64
+    requires { ⌜ d ≤ 2 ^ 62 ⌝ }
+    ensures { λ k. ⌜ Digit d k ⌝ }
+{
+    if d < 0x4_0000_0000 {
+        return 29;
+    }
+    if d < 0x200_0000_0000 {
+        return 22;
+    }
+    if d < 0x8000_0000_0000 {
+        return 16;
+    }
+    if d < 0x10_0000_0000_0000 {
+        return 11;
+    }
+    if d < 0x200_0000_0000_0000 {
+        return 6;
+    }
+    1
+}
+
+// x times n, by k binary digits of x at a time.
+fn by_digits(x: u64, n: u64, d: u64, k: u64) -> Part
+    requires { ⌜ (n ≤ d) × (0 < d) × Digit d k ⌝ }
     ensures { λ s. ⌜ Parts (x * n) d (s .q) (s .r) ⌝ }
 {
     if x == 0 {
         return Part { q: 0, r: 0 };
     }
-    let high = by_digits(x / base, n, d, base);
+    let base = power(k);
+    let high = by_digits(x / base, n, d, k);
     let q = high.q;
     let t = high.r * base + x % base * n;
     Part {
@@ -59,18 +90,13 @@ fn by_digits(x: u64, n: u64, d: u64, base: u64) -> Part
     }
 }
 
-// The largest base is taken that the divisor leaves room for.
 pub(crate) fn share(x: u64, n: u64, d: u64) -> u64
     requires { ⌜ (n ≤ d) × (0 < d) ⌝ }
     ensures { λ q. ⌜ q ≡ x * n / d ⌝ }
 {
-    if d < 0x200_0000_0000 {
-        let wide = by_digits(x, n, d, 0x40_0000);
-        return wide.q;
-    }
-    if d < 0x200_0000_0000_0000 {
-        let narrow = by_digits(x, n, d, 64);
-        return narrow.q;
+    if d <= 0x4000_0000_0000_0000 {
+        let shared = by_digits(x, n, d, digits_at_once(d));
+        return shared.q;
     }
     let whole = doubled(x, n / d, n % d, d);
     whole.q

@@ -9,16 +9,13 @@ use Rattle.amounts.proofs.scaling.share.Tie as tie
 returns : tie.Need-returns
 returns c = is-quotient _ _ _ _ (c .by-digits .ensures)
 
-returns-2 : tie.Need-returns-2
-returns-2 c = is-quotient _ _ _ _ (c .by-digits2 .ensures)
-
 doubled-requires : tie.Need-doubled-requires
-doubled-requires c κs = let z = c .before .before in (mod-lt _ (z .pre .1), room-scaled _ _ _ (z .fits .x .fits) (z .pre .0) (z .pre .1))
+doubled-requires c κs = let z = c .before in (mod-lt _ (z .pre .1), room-scaled _ _ _ (z .fits .x .fits) (z .pre .0) (z .pre .1))
 
-returns-3 : tie.Need-returns-3
-returns-3 c = let z = c .before .before .before in is-quotient _ _ _ _ (c .doubled .ensures) ∙ by-whole (z .args .x) (z .args .n) (z .args .d)
+returns-2 : tie.Need-returns-2
+returns-2 c = let z = c .before .before in is-quotient _ _ _ _ (c .doubled .ensures) ∙ by-whole (z .args .x) (z .args .n) (z .args .d)
 
 pub share-spec : {M : Type 1} → statement M
 share-spec =
     tie.close
-    (tie.spec (λ c κs. search needs) returns (λ c κs. search needs) returns-2 (λ c. search needs) (λ c. search needs) doubled-requires returns-3)
+    (tie.spec (λ c κs. search needs) (λ c κs. search needs) returns (λ c. search needs) (λ c. search needs) doubled-requires returns-2)

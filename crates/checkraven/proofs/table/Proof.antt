@@ -1,0 +1,33 @@
+-- `checkraven::table` meets its contract. Assumes nothing.
+use Prim.Native.Nat.{_≤_, _-_}
+use borrow.Author.Needs.{needs}
+use Rattle.checkraven.proofs.table.Statement.{statement}
+use Rattle.checkraven.proofs.table.Tie as tie
+
+abbrev Inv-loop : tie.InvT-loop
+Inv-loop name cells lines i₀ t5 i = i ≤ lines
+
+abbrev μ-loop : tie.MeasureT-loop
+μ-loop name cells lines i₀ t5 i = lines - i
+
+pub table-spec : {M : Type 1} → statement M
+table-spec =
+    tie.close
+    (tie.spec
+    Inv-loop
+    μ-loop
+    (λ c. search needs)
+    (λ c κs. search needs)
+    (λ c. search needs)
+    (λ c κs. search needs)
+    (λ c. search needs)
+    (λ c κs. search needs)
+    (λ c. search needs)
+    (λ c. search needs)
+    (λ c. search needs)
+    (λ c κs. search needs)
+    (λ c. search needs)
+    (λ c κs. search needs)
+    (λ c. search needs)
+    (λ c κs. search needs)
+    (λ c. search needs))

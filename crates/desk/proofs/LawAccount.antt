@@ -1,0 +1,141 @@
+-- What a line of a good book answers: numbers that the amounts are worked from, and amounts that add up and are small.
+use Prim.Native.Nat.{ℕ, _+_, _≤_, _<_}
+use mathlib.Core.Bool.{Bool, true, false, _&&_}
+use mathlib.Core.Path.{_≡_, refl, _∙_}
+use mathlib.Core.List.{List}
+use mathlib.Core.Logic.{⊎-elim}
+use native.Mathlib.Nat.{mul-le-mul}
+use native.Mathlib.Omega.{arith}
+use lib.Dec.{leb, eqb}
+use borrow.Author.Tests.{leb-true}
+use Rattle.little.specs.declared.found.Found.{Found}
+use Rattle.little.specs.declared.found.Found.the-variants.{At, Nothing}
+use Rattle.little.proofs.LawTest.{by-test, and-left, and-right}
+use Rattle.little.proofs.LawFirst.{first-below}
+use Rattle.amounts.specs.Line.{Admissible, amountsOf, workedOf}
+use Rattle.amounts.specs.declared.line.Amounts.{Amounts}
+use Rattle.amounts.specs.declared.line.Worked.{Worked}
+use Rattle.amounts.proofs.LawLine.{worked-line, sound}
+use Rattle.amounts.specs.declared.line.Worked.the-variants as worked
+use Rattle.desk.specs.Book.{techniqueBlock, techniqueEfficiency, bookOk}
+use Rattle.desk.specs.Row.{rowOf}
+use Rattle.desk.specs.Technique.{techniqueHas, techniqueIndex}
+use Rattle.desk.specs.Reading.{goesWith, shareOf}
+use Rattle.desk.specs.Line.{lineOf}
+use Rattle.desk.specs.Account.{treated, byTechnique, treatmentOf, generatedOf, byTreatment, byRow, Moderate, accountOf, lineOutcome}
+use Rattle.desk.specs.declared.line.Line.{Line}
+use Rattle.desk.specs.declared.row.Row.{Row}
+use Rattle.desk.specs.declared.row.RowSearch.{RowSearch}
+use Rattle.desk.specs.declared.row.RowSearch.the-variants.{Hit, Miss}
+use Rattle.desk.specs.declared.reading.Reading.{Reading}
+use Rattle.desk.specs.declared.reading.Share.{Share}
+use Rattle.desk.specs.declared.reading.Share.the-variants.{Part, NoShare}
+use Rattle.desk.specs.declared.account.Treatment.{Treatment}
+use Rattle.desk.specs.declared.account.Treatment.the-variants.{By, NoTreatment}
+use Rattle.desk.specs.declared.account.LineOutcome.{LineOutcome}
+use Rattle.desk.specs.declared.account.LineOutcome.the-variants.{Given, Refusal}
+use Rattle.desk.proofs.LawReading.{Fair, share-fair}
+use Rattle.desk.proofs.LawRow.{GoodRow, hit-good}
+
+-- both limits of rule 4
+pub both-moderate : (a b : ℕ) → (leb a 1_000_000_000 && leb b 1_000_000_000) ≡ true → (a ≤ 1_000_000_000) × (b ≤ 1_000_000_000)
+both-moderate a b h =
+    (leb-true a 1_000_000_000 (and-left (leb a 1_000_000_000) (leb b 1_000_000_000) h), leb-true b 1_000_000_000 (and-right (leb a 1_000_000_000) (leb b 1_000_000_000) h))
+
+-- ---- where the numbers are admissible `work` answers a line
+
+module _ (G e n d u : ℕ) (water : Bool) (w : Worked) (ok : Admissible e n d u) (p : w ≡ workedOf G e n d u water) where
+  is-line : w ≡ worked.Line (amountsOf G e n d u water)
+  is-line = p ∙ worked-line G e n d u water ok
+
+  pub line-worked : (a : Amounts) → w ≡ worked.Line a → a ≡ amountsOf G e n d u water
+  line-worked a q = let r = is-line in cc
+
+  pub never-bad : w ≡ worked.Bad → ⊥
+  never-bad q = let r = is-line in let z : _≡_ {A = ℕ} 0 1 = cc in omega arith
+
+-- ---- the numbers are admissible
+
+module _ (u : ℕ) (reuse : u ≤ 1000) where
+  treated-admissible : (k : ℕ) (share : Share) → k ≤ 1000 → ((n d : ℕ) → share ≡ Part n d → Fair n d) → (e n d : ℕ) → treated k share ≡ By e n d → Admissible e n d u
+  treated-admissible k (NoShare number) most fair e n d h = let z : _≡_ {A = ℕ} 0 1 = cc in absurd (omega arith)
+  treated-admissible k (Part a b) most fair e n d h =
+      let p : k ≡ e = cc in
+      let q : a ≡ n = cc in
+      let r : b ≡ d = cc in
+      let f = fair a b refl in
+      record { efficiency = omega arith; fraction = omega arith; divisor = omega arith; size = omega arith; reuse = reuse }
+
+  module _ (t : List ℕ) (row : Row) (good : GoodRow t row) (reading : Reading) where
+    technique-admissible : (f : Found) → ((j : ℕ) → f ≡ At j → j < row .techniques) → (e n d : ℕ) → byTechnique t row reading f ≡ By e n d → Admissible e n d u
+    technique-admissible Nothing below e n d h = let z : _≡_ {A = ℕ} 0 1 = cc in absurd (omega arith)
+    technique-admissible (At j) below e n d h =
+        ⊎-elim
+        (λ (g : goesWith reading (row .rule) ≡ true).
+        treated-admissible (techniqueEfficiency t (row .first + j)) (shareOf reading) (good .efficiency j (below j refl)) (share-fair reading) e n d (rw g at h))
+        (λ (g : goesWith reading (row .rule) ≡ false).
+        let r : NoTreatment 8 ≡ By e n d = rw g at h in let z : _≡_ {A = ℕ} 0 1 = cc in absurd (omega arith))
+        (by-test (goesWith reading (row .rule)))
+
+    pub treatment-admissible : (technique e n d : ℕ) → treatmentOf t row technique reading ≡ By e n d → Admissible e n d u
+    unfolding treatmentOf techniqueIndex
+    treatment-admissible technique e n d h =
+        ⊎-elim
+        (λ (g : eqb technique 0 ≡ true).
+        let r : By 0 0 1 ≡ By e n d = rw g at h in
+        let p : 0 ≡ e = cc in
+        let q : 0 ≡ n = cc in
+        let s : 1 ≡ d = cc in
+        record { efficiency = omega arith; fraction = omega arith; divisor = omega arith; size = omega arith; reuse = reuse })
+        (λ (g : eqb technique 0 ≡ false).
+        technique-admissible (techniqueIndex t (row .first) (row .techniques) technique) (λ j q. first-below (techniqueHas t (row .first) technique) (row .techniques) j q) e n d (rw g at h))
+        (by-test (eqb technique 0))
+
+-- ---- the amounts add up, and are at most 10^17
+
+pub record Balanced (most : ℕ) (a : Amounts) : Type 0 where
+  pub sum : a .generated ≡ a .removed + a .reused + a .discharged
+  pub small : a .generated ≤ most
+
+abbrev pub lineMost : ℕ
+lineMost = 100_000_000_000_000_000
+
+-- what is written where a line gives amounts
+abbrev pub Balances : LineOutcome → Type 0
+Balances (Given a) = Balanced lineMost a
+Balances (Refusal number) = Unit
+
+generated-small : (row : Row) (line : Line) → row .coefficient ≤ 100_000_000 → Moderate line → generatedOf row line ≤ lineMost
+unfolding generatedOf
+generated-small row line c m =
+    ⊎-elim (λ (e : eqb (row .basis) 1 ≡ true). rw e (mul-le-mul c (m .0))) (λ (e : eqb (row .basis) 1 ≡ false). rw e (mul-le-mul c (m .1)))
+    (by-test (eqb (row .basis) 1))
+
+treatment-balances : (row : Row) (line : Line) (k : Treatment) → generatedOf row line ≤ lineMost → ((e n d : ℕ) → k ≡ By e n d → Admissible e n d (line .reuse)) → Balances (byTreatment row line k)
+treatment-balances row line (NoTreatment number) small ok = tt
+treatment-balances row line (By e n d) small ok =
+    record { sum = sound (generatedOf row line) e n d (line .reuse) (eqb (line .key .medium) 1) (ok e n d refl) .sum; small = small }
+
+row-balances : (b : List ℕ) (line : Line) (f : RowSearch) → bookOk b ≡ true → rowOf b (line .key) ≡ f → Moderate line → line .reuse ≤ 1000 → Balances (byRow (techniqueBlock b) line f)
+row-balances b line Miss good e moderate reuse = tt
+row-balances b line (Hit row) good e moderate reuse =
+    let g = hit-good b (line .key) row good e in
+    treatment-balances row line (treatmentOf (techniqueBlock b) row (line .technique) (line .reading)) (generated-small row line (g .coefficient) moderate)
+    (treatment-admissible (line .reuse) reuse (techniqueBlock b) row g (line .reading) (line .technique))
+
+pub account-balances : (b : List ℕ) (line : Line) → bookOk b ≡ true → Balances (accountOf b line)
+unfolding accountOf
+account-balances b line good =
+    let t = leb (line .product) 1_000_000_000 && leb (line .material) 1_000_000_000 in
+    ⊎-elim
+    (λ (p : t ≡ true). ⊎-elim
+    (λ (q : leb (line .reuse) 1000 ≡ true). rw (p, q)
+    (row-balances b line (rowOf b (line .key)) good refl (both-moderate (line .product) (line .material) p) (leb-true (line .reuse) 1000 q)))
+    (λ (q : leb (line .reuse) 1000 ≡ false). rw (p, q) tt)
+    (by-test (leb (line .reuse) 1000)))
+    (λ (p : t ≡ false). rw p tt)
+    (by-test t)
+
+pub line-balances : (b s : List ℕ) → bookOk b ≡ true → (i : ℕ) → Balances (lineOutcome b s i)
+unfolding lineOutcome
+line-balances b s good i = account-balances b (lineOf s i) good

@@ -1,0 +1,156 @@
+-- The order of keys, and what rising rows make of a search that halves.
+use Prim.Native.Nat.{ℕ, zero, suc, _+_, _-_, _≤_, _<_}
+use mathlib.Core.Path.{_≡_, refl, sym, ap, subst, _∙_}
+use mathlib.Core.Bool.{Bool, true, false, _&&_, _||_}
+use mathlib.Core.List.{List, [], _∷_}
+use mathlib.Core.Logic.{_⊎_, inl, inr, ⊎-elim}
+use native.Mathlib.Nat.{le-of-suc-le-suc, eq-or-lt-of-le}
+use native.Mathlib.Omega.{arith}
+use borrow.Author.Tests.{ltb-true, eqb-true, lt-ltb, le-ltb, eq-eqb, ne-eqb}
+use lib.Dec.{ltb, eqb}
+use Rattle.little.specs.Test.{every}
+use Rattle.little.specs.First.{first}
+use Rattle.little.specs.declared.found.Found.the-variants.{At, Nothing}
+use Rattle.little.proofs.LawTest.{by-test, and-left, and-right, every-at}
+use Rattle.little.proofs.LawFirst.{first-start, first-here, first-rest}
+use Rattle.desk.specs.Key.{keyFields, before, keyLess, keySame}
+use Rattle.desk.specs.Book.{rowCount, rowStart, keyAt, techniqueBlock, rises, rowOk, bookOk}
+use Rattle.desk.specs.Row.{rowHas, rowBefore, Cut}
+use Rattle.desk.specs.declared.key.Key.{Key}
+use Rattle.desk.proofs.LawBook.{row-good}
+
+-- ---- dictionary order
+
+-- what `before` says where the heads are not in order: they are the same, and the tails are in order
+tails : (a b : ℕ) (x y : List ℕ) → ltb a b ≡ false → (ltb a b || eqb a b && before x y) ≡ true → (a ≡ b) × (before x y ≡ true)
+tails a b x y l h =
+    let t : (eqb a b && before x y) ≡ true = rw l at h in
+    (eqb-true a b (and-left (eqb a b) (before x y) t), and-right (eqb a b) (before x y) t)
+
+heads : (a c : ℕ) (x z : List ℕ) → a < c → (ltb a c || eqb a c && before x z) ≡ true
+heads a c x z h = rw (lt-ltb a c h)
+
+before-trans : (x y z : List ℕ) → before x y ≡ true → before y z ≡ true → before x z ≡ true
+before-trans [] y z p q = cc
+before-trans (a ∷ x) [] z p q = cc
+before-trans (a ∷ x) (b ∷ y) [] p q = cc
+before-trans (a ∷ x) (b ∷ y) (c ∷ z) p q =
+    ⊎-elim
+    (λ (l : ltb a b ≡ true). ⊎-elim
+    (λ (m : ltb b c ≡ true). heads a c x z (omega (arith, ltb-true a b l, ltb-true b c m)))
+    (λ (m : ltb b c ≡ false). let t = tails b c y z m q in heads a c x z (omega (arith, ltb-true a b l, t .0)))
+    (by-test (ltb b c)))
+    (λ (l : ltb a b ≡ false).
+    let s = tails a b x y l p in
+    ⊎-elim
+    (λ (m : ltb b c ≡ true). heads a c x z (omega (arith, ltb-true b c m, s .0)))
+    (λ (m : ltb b c ≡ false).
+    let t = tails b c y z m q in
+    let h : c ≤ a = omega (arith, s .0, t .0) in
+    rw (le-ltb a c h, eq-eqb a c (s .0 ∙ t .0), before-trans x y z (s .1) (t .1)))
+    (by-test (ltb b c)))
+    (by-test (ltb a b))
+
+before-irrefl : (x : List ℕ) → before x x ≡ false
+before-irrefl [] = refl
+before-irrefl (a ∷ x) = let h : a ≤ a = omega arith in rw (le-ltb a a h, eq-eqb a a refl, before-irrefl x)
+
+-- ---- keys
+
+less-trans : (x y z : Key) → keyLess x y ≡ true → keyLess y z ≡ true → keyLess x z ≡ true
+unfolding keyLess
+less-trans x y z p q = before-trans (keyFields x) (keyFields y) (keyFields z) p q
+
+same-fields : (a k : Key) → keySame a k ≡ true → keyFields a ≡ keyFields k
+unfolding keySame
+same-fields a k h =
+    rw (eqb-true (a .industry) (k .industry) (every-at _ h 0), eqb-true (a .product) (k .product) (every-at _ h 1), eqb-true (a .material) (k .material) (every-at _ h 2), eqb-true (a .process) (k .process) (every-at _ h 3), eqb-true (a .scale) (k .scale) (every-at _ h 4), eqb-true (a .medium) (k .medium) (every-at _ h 5), eqb-true (a .pollutant) (k .pollutant) (every-at _ h 6))
+
+-- what is told apart by some key is not the same
+apart : (c a k : Key) → keyLess c a ≡ true → keyLess c k ≡ false → keySame a k ≡ false
+unfolding keyLess
+apart c a k p q =
+    ⊎-elim
+    (λ (s : keySame a k ≡ true). let z : true ≡ false = sym p ∙ ap (λ (l : List ℕ). before (keyFields c) l) (same-fields a k s) ∙ q in cc)
+    (λ (s : keySame a k ≡ false). s)
+    (by-test (keySame a k))
+
+less-not-same : (a k : Key) → keyLess a k ≡ true → keySame a k ≡ false
+unfolding keyLess
+less-not-same a k h =
+    ⊎-elim
+    (λ (s : keySame a k ≡ true). let z : true ≡ false = sym h ∙ ap (λ (l : List ℕ). before (keyFields a) l) (sym (same-fields a k s)) ∙ before-irrefl (keyFields a) in cc)
+    (λ (s : keySame a k ≡ false). s)
+    (by-test (keySame a k))
+
+-- a cut whose ends have met
+pub cut-met : (b : List ℕ) (k : Key) (low high : ℕ) → Cut b k low high → high ≤ low → Cut b k low low
+cut-met b k low high C l = let e : high ≡ low = omega (arith, C .order) in rw e at C
+
+-- ---- the rows of a good book
+
+module _ (b : List ℕ) (good : bookOk b ≡ true) where
+  row-rises : (j : ℕ) → suc j < rowCount b → keyLess (keyAt b (rowStart b j)) (keyAt b (rowStart b (suc j))) ≡ true
+  unfolding rowOk rises
+  row-rises j l =
+      let e = every-at _ (row-good b good (suc j) l) 3 in
+      let n : suc j - 1 ≡ j = omega arith in
+      rw (ne-eqb (suc j) 0 (λ q. omega arith), n) at e
+
+  rows-rise : (i j : ℕ) → i < j → j < rowCount b → keyLess (keyAt b (rowStart b i)) (keyAt b (rowStart b j)) ≡ true
+  rows-rise i zero l m = absurd (omega arith)
+  rows-rise i (suc j) l m =
+      ⊎-elim (λ (q : i ≡ j). rw q (row-rises j m))
+      (λ (lt : i < j). less-trans (keyAt b (rowStart b i)) (keyAt b (rowStart b j)) (keyAt b (rowStart b (suc j))) (rows-rise i j lt (omega arith)) (row-rises j m))
+      (eq-or-lt-of-le (le-of-suc-le-suc l))
+
+  -- ---- halving
+
+  pub cut-start : (k : Key) → Cut b k 0 (rowCount b)
+  cut-start k = record { order = omega arith; within = omega arith; below = λ i l. absurd (omega arith); above = λ i l m. absurd (omega arith) }
+
+  pub cut-low : (k : Key) (low high m : ℕ) → Cut b k low high → low ≤ m → m < high → rowBefore b k m ≡ true → Cut b k (m + 1) high
+  unfolding rowBefore
+  cut-low k low high m C l h e =
+      record {
+        order = omega arith;
+        within = C .within;
+        below = λ i q. ⊎-elim (λ (s : i ≡ m). rw s e)
+            (λ (lt : i < m). less-trans (keyAt b (rowStart b i)) (keyAt b (rowStart b m)) k (rows-rise i m lt (omega (arith, C .within))) e)
+            (eq-or-lt-of-le (omega arith));
+        above = C .above;
+      }
+
+  pub cut-high : (k : Key) (low high m : ℕ) → Cut b k low high → low ≤ m → m < high → rowBefore b k m ≡ false → Cut b k low m
+  unfolding rowBefore
+  cut-high k low high m C l h e = record { order = l; within = omega (arith, C .within); below = C .below; above = λ i q s. later i (eq-or-lt-of-le q) s }
+    where
+      earlier : (i : ℕ) → m < i → i < rowCount b → keyLess (keyAt b (rowStart b i)) k ≡ true → keyLess (keyAt b (rowStart b m)) k ≡ true
+      earlier i lt s t = less-trans (keyAt b (rowStart b m)) (keyAt b (rowStart b i)) k (rows-rise m i lt s) t
+
+      later : (i : ℕ) → (m ≡ i) ⊎ (m < i) → i < rowCount b → rowBefore b k i ≡ false
+      later i (inl q) s = rw (← q) e
+      later i (inr lt) s =
+          ⊎-elim (λ (t : keyLess (keyAt b (rowStart b i)) k ≡ true). let z : true ≡ false = sym (earlier i lt s t) ∙ e in cc)
+          (λ (t : keyLess (keyAt b (rowStart b i)) k ≡ false). t)
+          (by-test (keyLess (keyAt b (rowStart b i)) k))
+
+  -- ---- what the cut finds
+
+  nothing-below : (k : Key) (r : ℕ) → Cut b k r r → first r (rowHas b k) ≡ Nothing
+  unfolding rowBefore rowHas
+  nothing-below k r C = first-rest (rowHas b k) 0 r (first-start (rowHas b k)) (omega arith) (λ i l m. less-not-same (keyAt b (rowStart b i)) k (C .below i m))
+
+  pub cut-here : (k : Key) (r : ℕ) → Cut b k r r → r < rowCount b → rowHas b k r ≡ true → At r ≡ first (rowCount b) (rowHas b k)
+  cut-here k r C l e = first-here (rowHas b k) r (rowCount b) (nothing-below k r C) e l
+
+  pub cut-other : (k : Key) (r : ℕ) → Cut b k r r → r < rowCount b → rowHas b k r ≡ false → Nothing ≡ first (rowCount b) (rowHas b k)
+  unfolding rowBefore rowHas
+  cut-other k r C l e = sym (first-rest (rowHas b k) r (rowCount b) (nothing-below k r C) (C .within) (λ i q m. at i (eq-or-lt-of-le q) m))
+    where
+      at : (i : ℕ) → (r ≡ i) ⊎ (r < i) → i < rowCount b → rowHas b k i ≡ false
+      at i (inl q) m = rw (← q) e
+      at i (inr lt) m = apart (keyAt b (rowStart b r)) (keyAt b (rowStart b i)) k (rows-rise r i lt m) (C .above r (omega arith) l)
+
+  pub cut-none : (k : Key) (r : ℕ) → Cut b k r r → rowCount b ≤ r → Nothing ≡ first (rowCount b) (rowHas b k)
+  cut-none k r C l = let q : r ≡ rowCount b = omega (arith, C .within) in sym (rw q at (nothing-below k r C))

@@ -1,0 +1,42 @@
+-- What the row search finds in a good book.
+use Prim.Native.Nat.{ℕ, _+_, _≤_, _<_}
+use mathlib.Core.Bool.{true}
+use mathlib.Core.Path.{_≡_, refl}
+use mathlib.Core.List.{List}
+use native.Mathlib.Omega.{arith}
+use Rattle.little.specs.First.{first}
+use Rattle.little.specs.declared.found.Found.{Found}
+use Rattle.little.specs.declared.found.Found.the-variants.{At, Nothing}
+use Rattle.little.proofs.LawFirst.{first-below, or-else-below}
+use Rattle.desk.specs.Key.{allScales}
+use Rattle.desk.specs.Book.{rowCount, techniqueBlock, techniqueEfficiency, bookOk}
+use Rattle.desk.specs.Row.{rowHas, rowIndex, rowAt, rowFrom, rowOf}
+use Rattle.desk.specs.declared.key.Key.{Key}
+use Rattle.desk.specs.declared.row.Row.{Row}
+use Rattle.desk.specs.declared.row.RowSearch.the-variants.{Hit}
+use Rattle.desk.proofs.LawBook.{row-coefficient, row-efficiency}
+
+pub row-below : (b : List ℕ) (k : Key) (i : ℕ) → rowIndex b k ≡ At i → i < rowCount b
+unfolding rowIndex
+row-below b k i h =
+    or-else-below (first (rowCount b) (rowHas b k)) (first (rowCount b) (rowHas b (allScales k))) (rowCount b) i
+    (λ j q. first-below (rowHas b k) (rowCount b) j q)
+    (λ j q. first-below (rowHas b (allScales k)) (rowCount b) j q)
+    h
+
+-- a row of a good book with the technique block t
+pub record GoodRow (t : List ℕ) (row : Row) : Type 0 where
+  pub coefficient : row .coefficient ≤ 100_000_000
+  pub efficiency : (j : ℕ) → j < row .techniques → techniqueEfficiency t (row .first + j) ≤ 1000
+
+good-at : (b : List ℕ) → bookOk b ≡ true → (i : ℕ) → i < rowCount b → GoodRow (techniqueBlock b) (rowAt b i)
+unfolding rowAt
+good-at b good i l = record { coefficient = row-coefficient b good i l; efficiency = λ j m. row-efficiency b good i j l m }
+
+good-from : (b : List ℕ) → bookOk b ≡ true → (f : Found) → ((i : ℕ) → f ≡ At i → i < rowCount b) → (row : Row) → rowFrom b f ≡ Hit row → GoodRow (techniqueBlock b) row
+good-from b good (At i) below row h = let e : rowAt b i ≡ row = cc in rw e at (good-at b good i (below i refl))
+good-from b good Nothing below row h = let z : _≡_ {A = ℕ} 0 1 = cc in absurd (omega arith)
+
+pub hit-good : (b : List ℕ) (k : Key) (row : Row) → bookOk b ≡ true → rowOf b k ≡ Hit row → GoodRow (techniqueBlock b) row
+unfolding rowOf
+hit-good b k row good h = good-from b good (rowIndex b k) (λ i e. row-below b k i e) row h

@@ -1,0 +1,199 @@
+-- A row's list is right exactly where it is no longer than the run from its first technique on.
+use Prim.Native.Nat.{ℕ, zero, suc, _+_, _-_, _≤_, _<_}
+use mathlib.Core.Path.{_≡_, refl, sym, ap, _∙_}
+use mathlib.Core.Bool.{Bool, true, false, _&&_, _||_, not, cond}
+use mathlib.Core.List.{List, [], _∷_}
+use mathlib.Core.Logic.{_⊎_, inl, inr, ⊎-elim}
+use native.Mathlib.Numerals.{add-one}
+use native.Mathlib.Nat.{eq-or-lt-of-le}
+use native.Mathlib.Omega.{arith}
+use borrow.Author.Tests.{le-leb, lt-leb, leb-true, eqb-true, eq-eqb, ne-eqb}
+use lib.Dec.{leb, ltb, eqb}
+use lib.ListN.{getD, length, set}
+use lib.Seq.{getD-set-same, getD-set-other}
+use Rattle.little.specs.Test.{all, every}
+use Rattle.little.proofs.LawTest.{by-test, and-left, and-right, all-at, all-of}
+use Rattle.desk.specs.Book.{techniqueCode, techniqueOk, techniquesOk}
+use Rattle.desk.specs.Run.{lawful, runBefore, runOf, Runs, listOk}
+
+-- the c techniques from f on are lawful, and their codes rise
+record Good (t : List ℕ) (f c : ℕ) : Type 0 where
+  each : (j : ℕ) → j < c → lawful t (f + j) ≡ true
+  rise : (j : ℕ) → suc j < c → ltb (techniqueCode t (f + j)) (techniqueCode t (f + suc j)) ≡ true
+
+none-good : (t : List ℕ) (f c : ℕ) → c ≡ 0 → Good t f c
+none-good t f c e = record { each = λ j l. absurd (omega arith); rise = λ j l. absurd (omega arith) }
+
+-- ---- lists
+
+ok-later : (t : List ℕ) (f j : ℕ) → techniqueOk t f (suc j) ≡ (lawful t (f + suc j) && ltb (techniqueCode t (f + j)) (techniqueCode t (f + suc j)))
+unfolding techniqueOk every lawful
+ok-later t f j =
+    let n : suc j - 1 ≡ j = omega arith in
+    rw (ne-eqb (suc j) 0 (λ q. omega arith), n)
+
+ok-lawful : (t : List ℕ) (f j : ℕ) → techniqueOk t f j ≡ true → lawful t (f + j) ≡ true
+unfolding techniqueOk every lawful
+ok-lawful t f j h = and-left (lawful t (f + j)) (eqb j 0 || ltb (techniqueCode t (f + (j - 1))) (techniqueCode t (f + j))) h
+
+ok-first : (t : List ℕ) (f : ℕ) → lawful t (f + 0) ≡ true → techniqueOk t f 0 ≡ true
+unfolding techniqueOk every lawful
+ok-first t f h = rw h
+
+ok-good : (t : List ℕ) (f c : ℕ) → all c (techniqueOk t f) ≡ true → Good t f c
+ok-good t f c h =
+    record {
+      each = λ j l. ok-lawful t f j (all-at (techniqueOk t f) c j h l);
+      rise = λ j l. and-right (lawful t (f + suc j)) (ltb (techniqueCode t (f + j)) (techniqueCode t (f + suc j))) (sym (ok-later t f j) ∙ all-at (techniqueOk t f) c (suc j) h l);
+    }
+
+good-ok : (t : List ℕ) (f c : ℕ) → Good t f c → all c (techniqueOk t f) ≡ true
+good-ok t f c G = all-of (techniqueOk t f) c (λ j l. at j l)
+  where
+    at : (j : ℕ) → j < c → techniqueOk t f j ≡ true
+    at zero l = ok-first t f (G .each 0 l)
+    at (suc j) l = ok-later t f j ∙ rw (G .each (suc j) l, G .rise j l)
+
+-- ---- runs
+
+module _ (t : List ℕ) where
+  longer : (f c : ℕ) → lawful t f ≡ true → (1 < c → ltb (techniqueCode t f) (techniqueCode t (f + 1)) ≡ true) → Good t (f + 1) (c - 1) → Good t f c
+  longer f c h r G = record { each = each; rise = rise }
+    where
+      each : (j : ℕ) → j < c → lawful t (f + j) ≡ true
+      each zero l = let e : f ≡ f + 0 = omega arith in rw e at h
+      each (suc j) l = let e : f + 1 + j ≡ f + suc j = omega arith in rw e at (G .each j (omega arith))
+
+      rise : (j : ℕ) → suc j < c → ltb (techniqueCode t (f + j)) (techniqueCode t (f + suc j)) ≡ true
+      rise zero l =
+          let e : f + 0 ≡ f = omega arith in
+          let d : f + suc 0 ≡ f + 1 = omega arith in
+          rw (e, d) (r (omega arith))
+      rise (suc j) l =
+          let e : f + suc j ≡ f + 1 + j = omega arith in
+          let d : f + suc (suc j) ≡ f + 1 + suc j = omega arith in
+          rw (e, d) (G .rise j (omega arith))
+
+  shorter : (f c : ℕ) → Good t f (suc c) → Good t (f + 1) c
+  shorter f c G = record { each = each; rise = rise }
+    where
+      each : (j : ℕ) → j < c → lawful t (f + 1 + j) ≡ true
+      each j l = let e : f + 1 + j ≡ f + suc j = omega arith in rw e (G .each (suc j) (omega arith))
+
+      rise : (j : ℕ) → suc j < c → ltb (techniqueCode t (f + 1 + j)) (techniqueCode t (f + 1 + suc j)) ≡ true
+      rise j l =
+          let e : f + 1 + j ≡ f + suc j = omega arith in
+          let d : f + 1 + suc j ≡ f + suc (suc j) = omega arith in
+          rw (e, d) (G .rise (suc j) (omega arith))
+
+  -- the three lengths of a run
+  unlawful : (k next : ℕ) → lawful t k ≡ false → runBefore t k next ≡ 0
+  unfolding runBefore
+  unlawful k next h = rw h
+
+  goes-on : (k next : ℕ) → lawful t k ≡ true → ltb (techniqueCode t k) (techniqueCode t (k + 1)) ≡ true → runBefore t k next ≡ next + 1
+  unfolding runBefore
+  goes-on k next h r = rw (h, r)
+
+  ends : (k next : ℕ) → lawful t k ≡ true → ltb (techniqueCode t k) (techniqueCode t (k + 1)) ≡ false → runBefore t k next ≡ 1
+  unfolding runBefore
+  ends k next h r = rw (h, r)
+
+  pub run-most : (n k : ℕ) → runOf t n k ≤ n
+  unfolding runOf
+  run-most zero k = omega arith
+  run-most (suc n) k =
+      let next = runOf t n (k + 1) in
+      let m : next ≤ n = run-most n (k + 1) in
+      ⊎-elim
+      (λ (h : lawful t k ≡ true). ⊎-elim
+      (λ (r : ltb (techniqueCode t k) (techniqueCode t (k + 1)) ≡ true). omega (arith, goes-on k next h r))
+      (λ (r : ltb (techniqueCode t k) (techniqueCode t (k + 1)) ≡ false). omega (arith, ends k next h r))
+      (by-test (ltb (techniqueCode t k) (techniqueCode t (k + 1)))))
+      (λ (h : lawful t k ≡ false). omega (arith, unlawful k next h))
+      (by-test (lawful t k))
+
+  run-good : (n f c : ℕ) → c ≤ runOf t n f → Good t f c
+  unfolding runOf
+  run-good zero f c h = none-good t f c (omega arith)
+  run-good (suc n) f c h =
+      let next = runOf t n (f + 1) in
+      ⊎-elim
+      (λ (w : lawful t f ≡ true). ⊎-elim
+      (λ (r : ltb (techniqueCode t f) (techniqueCode t (f + 1)) ≡ true). longer f c w (λ l. r) (run-good n (f + 1) (c - 1) (omega (arith, goes-on f next w r))))
+      (λ (r : ltb (techniqueCode t f) (techniqueCode t (f + 1)) ≡ false).
+      let one : c ≤ 1 = omega (arith, ends f next w r) in
+      longer f c w (λ l. absurd (omega arith)) (none-good t (f + 1) (c - 1) (omega arith)))
+      (by-test (ltb (techniqueCode t f) (techniqueCode t (f + 1)))))
+      (λ (w : lawful t f ≡ false). none-good t f c (omega (arith, unlawful f next w)))
+      (by-test (lawful t f))
+
+  good-run : (n f c : ℕ) → c ≤ n → Good t f c → c ≤ runOf t n f
+  unfolding runOf
+  good-run n f zero l G = omega arith
+  good-run zero f (suc c) l G = absurd (omega arith)
+  good-run (suc n) f (suc c) l G =
+      let next = runOf t n (f + 1) in
+      let e : f + 0 ≡ f = omega arith in
+      let d : f + suc 0 ≡ f + 1 = omega arith in
+      let w : lawful t f ≡ true = rw e at (G .each 0 (omega arith)) in
+      ⊎-elim
+      (λ (r : ltb (techniqueCode t f) (techniqueCode t (f + 1)) ≡ true). let m : c ≤ next = good-run n (f + 1) c (omega arith) (shorter f c G) in omega (arith, goes-on f next w r))
+      (λ (r : ltb (techniqueCode t f) (techniqueCode t (f + 1)) ≡ false). omega (arith, ends f next w r, only c (λ k. sym (rw (e, d) at (G .rise 0 k)) ∙ r)))
+      (by-test (ltb (techniqueCode t f) (techniqueCode t (f + 1))))
+    where
+      only : (c : ℕ) → (suc 0 < suc c → true ≡ false) → c ≡ 0
+      only zero k = refl
+      only (suc c) k = let z : true ≡ false = k (omega arith) in cc
+
+  -- ---- a row's list
+
+  within-run : (n f c : ℕ) → c ≤ n → leb c (runOf t n f) ≡ all c (techniqueOk t f)
+  within-run n f c l =
+      ⊎-elim
+      (λ (h : leb c (runOf t n f) ≡ true). h ∙ sym (good-ok t f c (run-good n f c (leb-true c (runOf t n f) h))))
+      (λ (h : leb c (runOf t n f) ≡ false). ⊎-elim
+      (λ (a : all c (techniqueOk t f) ≡ true). let z : true ≡ false = sym (le-leb c (runOf t n f) (good-run n f c l (ok-good t f c a))) ∙ h in cc)
+      (λ (a : all c (techniqueOk t f) ≡ false). h ∙ sym a)
+      (by-test (all c (techniqueOk t f))))
+      (by-test (leb c (runOf t n f)))
+
+  list-is : (size first count : ℕ) (runs : List ℕ) → Runs t size runs → listOk runs size first count ≡ techniquesOk t size first count
+  unfolding listOk techniquesOk
+  list-is size first zero runs R = rw (eq-eqb 0 0 refl, all-of (techniqueOk t first) 0 (λ i l. absurd (omega arith)))
+  list-is size first (suc c) runs R =
+      rw (ne-eqb (suc c) 0 (λ q. omega arith))
+      (⊎-elim
+      (λ (h : leb (first + suc c) size ≡ true).
+      let l : first + suc c ≤ size = leb-true (first + suc c) size h in
+      rw (h, R .at first (omega arith)) (within-run (size - first) first (suc c) (omega arith)))
+      (λ (h : leb (first + suc c) size ≡ false). rw h)
+      (by-test (leb (first + suc c) size)))
+
+  pub listed : (size n first count : ℕ) (runs : List ℕ) (r : Bool) → n ≡ size → Runs t size runs → r ≡ listOk runs n first count → r ≡ techniquesOk t size first count
+  listed size n first count runs r e R h = h ∙ ap (λ (m : ℕ). listOk runs m first count) e ∙ list-is size first count runs R
+
+  -- ---- filling from the end
+
+  pub run-none : (n k : ℕ) → n ≡ 0 → 0 ≡ runOf t n k
+  unfolding runOf
+  run-none n k e = rw e
+
+  pub run-next : (size k r : ℕ) → 0 < k → k ≤ size → r ≡ runOf t (size - k) k → runBefore t (k - 1) r ≡ runOf t (size - (k - 1)) (k - 1)
+  unfolding runOf
+  run-next size zero r p l e = absurd (omega arith)
+  run-next size (suc k) r p l e =
+      let m : suc k - 1 ≡ k = omega arith in
+      let n : size - k ≡ suc (size - suc k) = omega arith in
+      rw (m, n, add-one k, e)
+
+  -- the runs from k on are filled in
+  abbrev pub Filled : (size k : ℕ) → List ℕ → Type 0
+  Filled size k runs = (j : ℕ) → k ≤ j → j < size → getD runs j 0 ≡ runOf t (size - j) j
+
+  pub filled-next : (size k v : ℕ) (runs : List ℕ) → 0 < k → k - 1 < length runs → v ≡ runOf t (size - (k - 1)) (k - 1) → Filled size k runs → Filled size (k - 1) (set runs (k - 1) v)
+  filled-next size k v runs p h e F j l m =
+      ⊎-elim
+      (λ (q : k - 1 ≡ j). rw (← q) (getD-set-same runs (k - 1) v 0 h ∙ e))
+      (λ (lt : k - 1 < j). getD-set-other runs (k - 1) j v 0 (λ q. omega arith) ∙ F j (omega arith) m)
+      (eq-or-lt-of-le l)

@@ -1,0 +1,9 @@
+pub mod LawBook
+pub mod LawRun
+pub mod LawOrder
+pub mod LawRow
+pub mod LawReading
+pub mod LawAccount
+pub mod LawTable
+pub mod LawDeclare
+pub mod LawRefusal

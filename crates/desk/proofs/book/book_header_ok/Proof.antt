@@ -1,0 +1,16 @@
+-- `desk::book::book_header_ok` meets its contract. Assumes nothing.
+use borrow.Author.Needs.{needs}
+use Rattle.little.specs.Test.{every}
+use Rattle.desk.specs.Book.{bookHeaderOk}
+use Rattle.desk.proofs.book.book_header_ok.Statement.{statement}
+use Rattle.desk.proofs.book.book_header_ok.Tie as tie
+
+returns : tie.Need-returns
+unfolding every bookHeaderOk
+returns c = cc
+
+pub book-header-ok-spec : {M : Type 1} → statement M
+book-header-ok-spec =
+    tie.close
+    (tie.spec (λ c κs. search needs) (λ c κs. search needs) (λ c κs. search needs) (λ c κs. search needs) (λ c κs. search needs)
+    (λ c. search needs) (λ c. search needs) (λ c. search needs) (λ c. search needs) (λ c κs. search needs) returns)

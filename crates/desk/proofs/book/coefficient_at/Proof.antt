@@ -1,0 +1,36 @@
+-- `desk::book::coefficient_at` meets its contract. Assumes nothing.
+use native.Mathlib.Omega.{arith}
+use borrow.Author.Needs.{needs}
+use Rattle.little.proofs.LawNumber.{product-fits}
+use Rattle.desk.specs.Book.{coefficientAt}
+use Rattle.desk.proofs.LawBook.{fields-power}
+use Rattle.desk.proofs.book.coefficient_at.Statement.{statement}
+use Rattle.desk.proofs.book.coefficient_at.Tie as tie
+
+sub-ten-to : tie.Need-sub-ten-to
+sub-ten-to c =
+    let entry = c .before .before .before .before in
+    omega (arith, fields-power _ _ (entry .pre .1))
+
+sub-ten-to-2 : tie.Need-sub-ten-to-2
+sub-ten-to-2 c =
+    let entry = c .before .before .before .before in
+    omega (arith, fields-power _ _ (entry .pre .1))
+
+ten-to-requires : tie.Need-ten-to-requires
+ten-to-requires c κs =
+    let entry = c .before .before .before .before in
+    omega (arith, fields-power _ _ (entry .pre .1))
+
+mul-result : tie.Need-mul-result
+mul-result c = product-fits 4_294_967_296 100_000_000 (omega arith) (omega arith) tt
+
+returns : tie.Need-returns
+unfolding coefficientAt
+returns c = cc
+
+pub coefficient-at-spec : {M : Type 1} → statement M
+coefficient-at-spec =
+    tie.close
+    (tie.spec (λ c. search needs) (λ c κs. search needs) (λ c. search needs) (λ c κs. search needs) (λ c. search needs) (λ c κs. search needs)
+    (λ c. search needs) sub-ten-to sub-ten-to-2 ten-to-requires mul-result returns)

@@ -1,0 +1,17 @@
+-- `desk::book::fields_ok` meets its contract. Assumes nothing.
+use borrow.Author.Needs.{needs}
+use Rattle.little.specs.Test.{every}
+use Rattle.desk.specs.Book.{fieldsOk}
+use Rattle.desk.proofs.book.fields_ok.Statement.{statement}
+use Rattle.desk.proofs.book.fields_ok.Tie as tie
+
+returns : tie.Need-returns
+unfolding every fieldsOk
+returns c = cc
+
+pub fields-ok-spec : {M : Type 1} → statement M
+fields-ok-spec =
+    tie.close
+    (tie.spec (λ c. search needs) (λ c κs. search needs) (λ c. search needs) (λ c κs. search needs) (λ c. search needs) (λ c κs. search needs)
+    (λ c. search needs) (λ c κs. search needs) (λ c. search needs) (λ c κs. search needs) (λ c. search needs) (λ c κs. search needs)
+    (λ c. search needs) (λ c κs. search needs) returns)

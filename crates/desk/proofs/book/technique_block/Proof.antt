@@ -1,0 +1,12 @@
+-- `desk::book::technique_block` meets its contract. Assumes nothing.
+use borrow.Author.Needs.{needs}
+use Rattle.desk.specs.Book.{techniqueBlock}
+use Rattle.desk.proofs.book.technique_block.Statement.{statement}
+use Rattle.desk.proofs.book.technique_block.Tie as tie
+
+returns : tie.Need-returns
+unfolding techniqueBlock
+returns c = cc
+
+pub technique-block-spec : {M : Type 1} → statement M
+technique-block-spec = tie.close (tie.spec (λ c κs. search needs) (λ c κs. search needs) (λ c. search needs) (λ c κs. search needs) returns)

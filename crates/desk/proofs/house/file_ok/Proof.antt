@@ -1,0 +1,13 @@
+-- `desk::house::file_ok` meets its contract. Assumes nothing.
+use borrow.Author.Needs.{needs}
+use Rattle.little.specs.Test.{every}
+use Rattle.desk.specs.House.{fileOk}
+use Rattle.desk.proofs.house.file_ok.Statement.{statement}
+use Rattle.desk.proofs.house.file_ok.Tie as tie
+
+returns : tie.Need-returns
+unfolding every fileOk
+returns c = cc
+
+pub file-ok-spec : {M : Type 1} → statement M
+file-ok-spec = tie.close (tie.spec (λ c κs. search needs) returns)

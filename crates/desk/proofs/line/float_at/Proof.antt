@@ -1,0 +1,10 @@
+-- `desk::line::float_at` meets its contract. Assumes nothing.
+use borrow.Author.Needs.{needs}
+use Rattle.desk.proofs.line.float_at.Statement.{statement}
+use Rattle.desk.proofs.line.float_at.Tie as tie
+
+returns : tie.Need-returns
+returns c = cc
+
+pub float-at-spec : {M : Type 1} → statement M
+float-at-spec = tie.close (tie.spec (λ c κs. search needs) (λ c κs. search needs) returns)

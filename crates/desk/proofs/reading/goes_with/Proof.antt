@@ -1,0 +1,26 @@
+-- `desk::reading::goes_with` meets its contract. Assumes nothing.
+use borrow.Author.Needs.{needs}
+use Rattle.desk.specs.Reading.{goesWith}
+use Rattle.desk.proofs.reading.goes_with.Statement.{statement}
+use Rattle.desk.proofs.reading.goes_with.Tie as tie
+
+returns : tie.Need-returns
+unfolding goesWith
+returns c = cc
+
+returns-2 : tie.Need-returns-2
+unfolding goesWith
+returns-2 c = cc
+
+returns-3 : tie.Need-returns-3
+unfolding goesWith
+returns-3 c = cc
+
+returns-4 : tie.Need-returns-4
+unfolding goesWith
+returns-4 c = cc
+
+pub goes-with-spec : {M : Type 1} → statement M
+goes-with-spec =
+    tie.close
+    (tie.spec (λ c. search needs) (λ c. search needs) (λ c. search needs) (λ c. search needs) returns returns-2 returns-3 returns-4)

@@ -1,0 +1,20 @@
+-- `desk::row::row_at` meets its contract. Assumes nothing.
+use borrow.Author.Needs.{needs}
+use Rattle.desk.specs.Row.{rowAt}
+use Rattle.desk.proofs.row.row_at.Statement.{statement}
+use Rattle.desk.proofs.row.row_at.Tie as tie
+
+coefficient-at-requires : tie.Need-coefficient-at-requires
+coefficient-at-requires c κs =
+    let entry = c .before .before in
+    (search needs, rw (c .row-start .ensures .eq) (entry .pre .1))
+
+returns : tie.Need-returns
+unfolding rowAt
+returns c = record { eq = cc; small = search needs }
+
+pub row-at-spec : {M : Type 1} → statement M
+row-at-spec =
+    tie.close
+    (tie.spec (λ c κs. search needs) coefficient-at-requires (λ c. search needs) (λ c κs. search needs) (λ c. search needs) (λ c κs. search needs)
+    (λ c. search needs) (λ c κs. search needs) (λ c. search needs) (λ c κs. search needs) returns)

@@ -1,0 +1,12 @@
+-- `desk::row::row_before` meets its contract. Assumes nothing.
+use Rattle.desk.specs.Row.{rowBefore}
+use borrow.Author.Needs.{needs}
+use Rattle.desk.proofs.row.row_before.Statement.{statement}
+use Rattle.desk.proofs.row.row_before.Tie as tie
+
+returns : tie.Need-returns
+unfolding rowBefore
+returns c = cc
+
+pub row-before-spec : {M : Type 1} → statement M
+row-before-spec = tie.close (tie.spec (λ c κs. search needs) (λ c κs. search needs) (λ c κs. search needs) returns)

@@ -1,0 +1,30 @@
+-- `desk::row::row_index` meets its contract. Assumes nothing.
+use mathlib.Core.Path.{sym, _∙_}
+use borrow.Author.Needs.{needs}
+use Rattle.desk.specs.Row.{rowIndex}
+use Rattle.desk.proofs.row.row_index.Statement.{statement}
+use Rattle.desk.proofs.row.row_index.Tie as tie
+
+returns : tie.Need-returns
+unfolding rowIndex
+returns c =
+    let index-of = c .before .before .before .index-of in
+    record {
+      eq = rw (sym (index-of .ensures .eq) ∙ c .before .i .given .1);
+      below = rw (c .before .i .given .1) at (index-of .ensures .below);
+    }
+
+returns-2 : tie.Need-returns-2
+unfolding rowIndex
+returns-2 c =
+    let all-scales = c .before .before .before .before .all-scales in
+    let index-of = c .before .before .before .index-of in
+    record {
+      eq = rw (sym (index-of .ensures .eq) ∙ c .before .enum-told .given .1, ← all-scales .ensures) (c .index-of2 .ensures .eq);
+      below = c .index-of2 .ensures .below;
+    }
+
+pub row-index-spec : {M : Type 1} → statement M
+row-index-spec =
+    tie.close
+    (tie.spec (λ c κs. search needs) (λ c κs. search needs) (λ c. search needs) (λ c. search needs) (λ c κs. search needs) returns returns-2)

@@ -1,0 +1,16 @@
+-- `desk::sheet::line_ok` meets its contract. Assumes nothing.
+use borrow.Author.Needs.{needs}
+use Rattle.little.specs.Test.{every}
+use Rattle.desk.specs.Sheet.{lineOk}
+use Rattle.desk.proofs.sheet.line_ok.Statement.{statement}
+use Rattle.desk.proofs.sheet.line_ok.Tie as tie
+
+returns : tie.Need-returns
+unfolding every lineOk
+returns c = cc
+
+pub line-ok-spec : {M : Type 1} → statement M
+line-ok-spec =
+    tie.close
+    (tie.spec (λ c κs. search needs) (λ c. search needs) (λ c κs. search needs) (λ c. search needs) (λ c κs. search needs) (λ c. search needs)
+    (λ c κs. search needs) returns)

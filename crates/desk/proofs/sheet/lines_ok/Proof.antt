@@ -1,0 +1,31 @@
+-- `desk::sheet::lines_ok` meets its contract. Assumes nothing.
+use Prim.Native.Nat.{_≤_, _-_}
+use mathlib.Core.Path.{_≡_}
+use borrow.Author.Needs.{needs}
+use Rattle.little.proofs.LawTest.{all-start, all-step, all-done}
+use Rattle.little.specs.Test.{all}
+use Rattle.desk.specs.Sheet.{lineOk}
+use Rattle.desk.proofs.sheet.lines_ok.Statement.{statement}
+use Rattle.desk.proofs.sheet.lines_ok.Tie as tie
+
+abbrev Inv-loop : tie.InvT-loop
+Inv-loop s lines ok₀ i₀ ok i = (i ≤ lines) × (ok ≡ all i (lineOk s))
+
+abbrev μ-loop : tie.MeasureT-loop
+μ-loop s lines ok₀ i₀ ok i = lines - i
+
+loop-holds : tie.Need-loop-holds Inv-loop μ-loop
+loop-holds c = (search needs, all-start _)
+
+loop-again : tie.Need-loop-again Inv-loop μ-loop
+loop-again c =
+    let loop = c .before .before .loop in
+    (search needs, all-step _ _ (loop .inv .1) (c .line-ok .ensures))
+
+returns : tie.Need-returns Inv-loop μ-loop
+returns c = rw (all-done _ (c .before .loop .inv) (c .loop-test .left)) (cc)
+
+pub lines-ok-spec : {M : Type 1} → statement M
+lines-ok-spec =
+    tie.close
+    (tie.spec Inv-loop μ-loop (λ c κs. search needs) loop-holds (λ c κs. search needs) (λ c. search needs) (λ c. search needs) loop-again returns)

@@ -1,0 +1,42 @@
+-- `desk::table::exact_table` meets its contract. Assumes nothing.
+use mathlib.Core.Path.{sym, _∙_}
+use native.Mathlib.Omega.{arith}
+use borrow.Author.Needs.{needs}
+use Rattle.desk.specs.Table.{answerOf}
+use Rattle.desk.proofs.LawTable.{ready, lines-few, refused-cells}
+use Rattle.desk.proofs.table.exact_table.Statement.{statement}
+use Rattle.desk.proofs.table.exact_table.Tie as tie
+
+fill-requires : tie.Need-fill-requires
+fill-requires c κs =
+    let before-lines = c .before .before .before .before .before-lines in
+    let enum-told = c .before .before .enum-told in
+    let g = ready _ _ _ (sym (before-lines .ensures) ∙ enum-told .given .1) in
+    (omega (arith, lines-few _ (g .sheet)), omega (arith, g .fits), g .book)
+
+returns : tie.Need-returns
+unfolding answerOf
+returns c =
+    let before-lines = c .before .before .before .before .before .before .before .before-lines in
+    let number = c .before .before .before .before .before .number in
+    let clear = c .before .before .clear in
+    record {
+      answer = rw (← before-lines .ensures, number .given .1);
+      table = refused-cells _ _ _ _ _ _ (clear .ensures);
+    }
+
+returns-2 : tie.Need-returns-2
+unfolding answerOf
+returns-2 c =
+    let before-lines = c .before .before .before .before .before .before .before .before-lines in
+    let enum-told = c .before .before .before .before .before .enum-told in
+    let u16-at = c .before .before .before .before .u16-at in
+    let fill = c .before .before .fill in
+    let f = rw (u16-at .ensures .eq) at (fill .ensures) in
+    record { answer = rw (← before-lines .ensures, enum-told .given .1) (f .answer); table = f .table }
+
+pub exact-table-spec : {M : Type 1} → statement M
+exact-table-spec =
+    tie.close
+    (tie.spec (λ c κs. search needs) (λ c. search needs) (λ c κs. search needs) (λ c. search needs) (λ c κs. search needs) fill-requires
+    (λ c. search needs) returns (λ c. search needs) returns-2)

@@ -1,0 +1,13 @@
+pub mod House
+pub mod Key
+pub mod Book
+pub mod Run
+pub mod Row
+pub mod Technique
+pub mod Sheet
+pub mod Reading
+pub mod Line
+pub mod Account
+pub mod Tally
+pub mod Table
+pub mod Declare

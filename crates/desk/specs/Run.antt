@@ -1,0 +1,30 @@
+-- How far a lawful list of techniques goes from each place of the block: what lets all rows be checked in one pass over it.
+use Prim.Native.Nat.{ℕ, zero, suc, _+_, _-_, _≤_, _<_}
+use mathlib.Core.Path.{_≡_}
+use mathlib.Core.Bool.{Bool, _&&_, _||_, not, cond}
+use mathlib.Core.List.{List}
+use lib.Dec.{leb, ltb, eqb}
+use lib.ListN.{getD, length}
+use Rattle.desk.specs.Book.{techniqueCode, techniqueEfficiency}
+
+-- technique k by itself: its code is not 0, and its efficiency is at most 1000
+unfoldable pub lawful : List ℕ → ℕ → Bool
+lawful t k = not (eqb (techniqueCode t k) 0) && leb (techniqueEfficiency t k) 1000
+
+-- the run from k on, where the one from k + 1 on has `next` techniques
+unfoldable pub runBefore : List ℕ → ℕ → ℕ → ℕ
+runBefore t k next = cond (lawful t k) (cond (ltb (techniqueCode t k) (techniqueCode t (k + 1))) (next + 1) 1) 0
+
+-- how many of the n techniques from k on are lawful, with codes that strictly rise
+unfoldable pub runOf : List ℕ → ℕ → ℕ → ℕ
+runOf t zero k = 0
+runOf t (suc n) k = runBefore t k (runOf t n (k + 1))
+
+-- `runs` holds, for each of the block's `size` techniques, the run from it on
+pub record Runs (t : List ℕ) (size : ℕ) (runs : List ℕ) : Type 0 where
+  pub long : size ≤ length runs
+  pub at : (k : ℕ) → k < size → getD runs k 0 ≡ runOf t (size - k) k
+
+-- a row's list by the run from its first technique on; of an empty list the first index is not looked at
+unfoldable pub listOk : List ℕ → ℕ → ℕ → ℕ → Bool
+listOk runs size first count = eqb count 0 || (leb (first + count) size && leb count (getD runs first 0))

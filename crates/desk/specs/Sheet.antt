@@ -1,0 +1,66 @@
+-- "The sheet": when it is not malformed and within its limits.
+use Prim.Native.Nat.{ℕ, _+_, _*_}
+use mathlib.Core.Bool.{Bool, _&&_, not}
+use mathlib.Core.List.{List, [], _∷_}
+use lib.Dec.{leb, eqb}
+use Rattle.little.specs.Read.{byteAt, u16At, u32At, u64At}
+use Rattle.little.specs.Test.{all, every}
+use Rattle.desk.specs.House.{wholeLength, fileOk}
+
+-- ---- the header, 16 bytes
+
+pub record SheetHeader : Type 0 where
+  pub length : ℕ
+  pub lines : ℕ
+  pub medium : ℕ
+  pub pollutant : ℕ
+  pub lineOffset : ℕ
+  pub shownUnit : ℕ
+
+abbrev pub sheetHeader : List ℕ → SheetHeader
+sheetHeader s =
+    record { length = wholeLength s; lines = u16At s 4; medium = byteAt s 6; pollutant = byteAt s 7; lineOffset = u32At s 8; shownUnit = u32At s 12 }
+
+abbrev pub lineCount : List ℕ → ℕ
+lineCount s = sheetHeader s .lines
+
+abbrev pub lineSize : ℕ
+lineSize = 64
+
+-- the limits, and the lines inside the length; the shown unit is 1 gram, 2 kilogram or 3 tonne
+abbrev pub sheetFits : SheetHeader → Bool
+sheetFits h =
+    every
+    (leb (h .lines) 128
+    ∷ leb 1 (h .medium)
+    ∷ leb (h .medium) 3
+    ∷ not (eqb (h .pollutant) 0)
+    ∷ leb 16 (h .lineOffset)
+    ∷ leb (h .lineOffset + lineSize * h .lines) (h .length)
+    ∷ leb 1 (h .shownUnit)
+    ∷ leb (h .shownUnit) 3
+    ∷ [])
+
+unfoldable pub sheetHeaderOk : List ℕ → Bool
+sheetHeaderOk s = fileOk s 16 && sheetFits (sheetHeader s)
+
+-- ---- a line, 64 bytes: industry, product, material, process, scale, technique, reuse (u16 each); reading kind u8; zero u8; product kg u64;
+-- ---- material kg u64; three binary64 a, b, c; eight zero bytes
+
+abbrev pub lineStart : List ℕ → ℕ → ℕ
+lineStart s i = sheetHeader s .lineOffset + lineSize * i
+
+abbrev pub kindAt : List ℕ → ℕ → ℕ
+kindAt s at = byteAt s (at + 14)
+
+-- line i: its kind is one of the four, and its zero bytes are zero
+unfoldable pub lineOk : List ℕ → ℕ → Bool
+lineOk s i =
+    every
+    (leb (kindAt s (lineStart s i)) 3
+    ∷ eqb (byteAt s (lineStart s i + 15)) 0
+    ∷ eqb (u64At s (lineStart s i + 56)) 0
+    ∷ [])
+
+unfoldable pub sheetOk : List ℕ → Bool
+sheetOk s = sheetHeaderOk s && all (lineCount s) (lineOk s)

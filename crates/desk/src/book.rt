@@ -1,0 +1,167 @@
+// The coefficient book: its header, its rows and their techniques.
+ghost use mathlib.Core.Path.{_≡_};
+ghost use mathlib.Core.Bool.{true};
+ghost use Prim.Native.Nat.{_<_, _^_};
+ghost use Rattle.little.specs.Read.{Reads};
+ghost use Rattle.little.specs.Test.{all};
+ghost use Rattle.desk.specs.Key.{farthest};
+ghost use Rattle.desk.specs.Book.{bookHeaderOk, techniqueBlock, rowStart, rowCount, keyAt, fieldsOk, coefficientAt, rises, rowOk, bookOk, techniqueCount};
+ghost use Rattle.desk.specs.Run.{Runs};
+use super::house::file_ok;
+use super::key::Key;
+use super::key::key_from;
+use super::key::key_less;
+use super::run::fill_runs;
+use super::run::list_ok;
+use little::part::part;
+use little::read::byte_at;
+use little::read::u16_at;
+use little::read::u32_at;
+
+fn book_header_ok(b: &[u8]) -> bool
+    ensures { λ r. ⌜ r ≡ bookHeaderOk (now (b .entry)) ⌝ }
+{
+    let length = u32_at(b, 0);
+    let rows = u16_at(b, 4);
+    let techniques = u16_at(b, 6);
+    let row_offset = u32_at(b, 8);
+    let technique_offset = u32_at(b, 12);
+    let fits = (rows <= 1024)
+        & (techniques <= 4096)
+        & (16 <= row_offset)
+        & (row_offset + 24 * rows <= technique_offset)
+        & (technique_offset + 4 * techniques <= length);
+    file_ok(b, 16) & fits
+}
+
+// The technique block is a part of the book that begins at its offset.
+pub fn technique_block(b: &[u8]) -> &[u8]
+    ensures { λ r. ⌜ now r ≡ techniqueBlock (now (b .entry)) ⌝ }
+{
+    let offset = u32_at(b, 12);
+    let techniques = u16_at(b, 6);
+    part(b, offset, 4 * techniques)
+}
+
+pub(crate) fn row_start(b: &[u8], i: usize) -> usize
+    requires { ⌜ i < 65536 ⌝ }
+    ensures { λ r. ⌜ Reads r (rowStart (now (b .entry)) i) farthest ⌝ }
+{
+    u32_at(b, 8) + 24 * i
+}
+
+pub(crate) fn key_at(b: &[u8], at: usize) -> Key
+    requires { ⌜ at < farthest ⌝ }
+    ensures { λ r. ⌜ r ≡ keyAt (now (b .entry)) at ⌝ }
+{
+    key_from(b, at, byte_at(b, at + 10), byte_at(b, at + 11))
+}
+
+fn fields_ok(b: &[u8], at: usize) -> bool
+    requires { ⌜ at < farthest ⌝ }
+    ensures { λ r. ⌜ r ≡ fieldsOk (now (b .entry)) at ⌝ }
+{
+    let medium = byte_at(b, at + 10);
+    let pollutant = byte_at(b, at + 11);
+    let basis = byte_at(b, at + 12);
+    let unit = byte_at(b, at + 13);
+    let places = byte_at(b, at + 14);
+    let rule = byte_at(b, at + 15);
+    let techniques = u16_at(b, at + 22);
+    (1 <= medium)
+        & (medium <= 3)
+        & (pollutant != 0)
+        & (1 <= basis)
+        & (basis <= 2)
+        & (1 <= unit)
+        & (unit <= 3)
+        & (places <= 5)
+        & ((unit != 1) | (places <= 2))
+        & (rule <= 2)
+        & (((rule == 0) & (techniques == 0)) | ((rule != 0) & (techniques != 0)))
+}
+
+const TENS: [usize; 9] = [
+    1,
+    10,
+    100,
+    1000,
+    10000,
+    100_000,
+    1_000_000,
+    10_000_000,
+    100_000_000,
+];
+
+fn ten_to(e: usize) -> usize
+    requires { ⌜ e < 9 ⌝ }
+    ensures { λ r. ⌜ Reads r (10 ^ e) 100_000_001 ⌝ }
+{
+    TENS[e]
+}
+
+pub(crate) fn coefficient_at(b: &[u8], at: usize) -> usize
+    requires { ⌜ (at < farthest) × (fieldsOk (now b) at ≡ true) ⌝ }
+    ensures { λ r. ⌜ r ≡ coefficientAt (now (b .entry)) at ⌝ }
+{
+    let unit = byte_at(b, at + 13);
+    let places = byte_at(b, at + 14);
+    let digits = u32_at(b, at + 16);
+    digits * ten_to(3 * unit - 1 - places)
+}
+
+// Row i stands after the row before it.
+fn rises(b: &[u8], i: usize) -> bool
+    requires { ⌜ i < 65536 ⌝ }
+    ensures { λ r. ⌜ r ≡ rises (now (b .entry)) i ⌝ }
+{
+    if i == 0 {
+        true
+    } else {
+        key_less(key_at(b, row_start(b, i - 1)), key_at(b, row_start(b, i)))
+    }
+}
+
+fn row_ok(b: &[u8], runs: &[u16], i: usize) -> bool
+    requires { ⌜ (i < 65536) × Runs (techniqueBlock (now b)) (techniqueCount (now b)) (now runs) ⌝ }
+    ensures { λ r. ⌜ r ≡ rowOk (now (b .entry)) (techniqueBlock (now (b .entry))) i ⌝ }
+{
+    let size = u16_at(b, 6);
+    let at = row_start(b, i);
+    if fields_ok(b, at) {
+        let first = u16_at(b, at + 20);
+        let techniques = u16_at(b, at + 22);
+        (coefficient_at(b, at) <= 100_000_000)
+            & list_ok(runs, size, first, techniques)
+            & rises(b, i)
+    } else {
+        false
+    }
+}
+
+fn rows_ok(b: &[u8], runs: &[u16]) -> bool
+    requires { ⌜ Runs (techniqueBlock (now b)) (techniqueCount (now b)) (now runs) ⌝ }
+    ensures { λ r. ⌜ r ≡ all (rowCount (now (b .entry))) (rowOk (now (b .entry)) (techniqueBlock (now (b .entry)))) ⌝ }
+{
+    let rows = u16_at(b, 4);
+    let mut ok = true;
+    let mut i = 0;
+    while i < rows {
+        ok = ok & row_ok(b, runs, i);
+        i += 1;
+    }
+    ok
+}
+
+// Rows are looked at only where the header is right, so that no wrong count is walked.
+pub fn book_ok(b: &[u8]) -> bool
+    ensures { λ r. ⌜ r ≡ bookOk (now (b .entry)) ⌝ }
+{
+    if book_header_ok(b) {
+        let mut runs = [0u16; 4096];
+        fill_runs(technique_block(b), u16_at(b, 6), &mut runs);
+        rows_ok(b, &runs)
+    } else {
+        false
+    }
+}

@@ -1,0 +1,76 @@
+// The seven fields by which a row of the book is found, and by which the rows rise.
+ghost use mathlib.Core.Path.{_≡_};
+ghost use Prim.Native.Nat.{_<_};
+ghost use Rattle.desk.specs.Key.{farthest, keyFrom, keyLess, keySame, allScales};
+use little::read::u16_at;
+
+pub struct Key {
+    pub industry: usize,
+    pub product: usize,
+    pub material: usize,
+    pub process: usize,
+    pub scale: usize,
+    pub medium: usize,
+    pub pollutant: usize,
+}
+
+// Rows and lines begin with the same five codes.
+pub(crate) fn key_from(s: &[u8], at: usize, medium: usize, pollutant: usize) -> Key
+    requires { ⌜ at < farthest ⌝ }
+    ensures { λ r. ⌜ r ≡ keyFrom (now (s .entry)) at medium pollutant ⌝ }
+{
+    Key {
+        industry: u16_at(s, at),
+        product: u16_at(s, at + 2),
+        material: u16_at(s, at + 4),
+        process: u16_at(s, at + 6),
+        scale: u16_at(s, at + 8),
+        medium,
+        pollutant,
+    }
+}
+
+pub fn key_less(a: Key, b: Key) -> bool
+    ensures { λ r. ⌜ r ≡ keyLess a b ⌝ }
+{
+    (a.industry < b.industry)
+        | ((a.industry == b.industry)
+            & ((a.product < b.product)
+                | ((a.product == b.product)
+                    & ((a.material < b.material)
+                        | ((a.material == b.material)
+                            & ((a.process < b.process)
+                                | ((a.process == b.process)
+                                    & ((a.scale < b.scale)
+                                        | ((a.scale == b.scale)
+                                            & ((a.medium < b.medium)
+                                                | ((a.medium == b.medium)
+                                                    & (a.pollutant < b.pollutant))))))))))))
+}
+
+pub fn key_same(a: Key, b: Key) -> bool
+    ensures { λ r. ⌜ r ≡ keySame a b ⌝ }
+{
+    (a.industry == b.industry)
+        & (a.product == b.product)
+        & (a.material == b.material)
+        & (a.process == b.process)
+        & (a.scale == b.scale)
+        & (a.medium == b.medium)
+        & (a.pollutant == b.pollutant)
+}
+
+// Scale 0 stands for all scales.
+pub fn all_scales(k: Key) -> Key
+    ensures { λ r. ⌜ r ≡ allScales k ⌝ }
+{
+    Key {
+        industry: k.industry,
+        product: k.product,
+        material: k.material,
+        process: k.process,
+        scale: 0,
+        medium: k.medium,
+        pollutant: k.pollutant,
+    }
+}

@@ -1,0 +1,14 @@
+// The desk: it reads a coefficient book and a sheet, and accounts for the sheet's lines. It relies on `amounts` only through its promises.
+mod account;
+pub mod book;
+pub mod declare;
+pub mod house;
+pub mod key;
+pub mod line;
+pub mod reading;
+mod row;
+mod run;
+pub mod sheet;
+pub mod table;
+mod tally;
+mod technique;

@@ -1,0 +1,69 @@
+// A line of a sheet as a value: what stands between the bytes and the accounts.
+ghost use mathlib.Core.Path.{_≡_};
+ghost use Prim.Native.Nat.{_<_};
+ghost use Rattle.desk.specs.Key.{farthest};
+ghost use Rattle.desk.specs.Line.{floatAt, readingAt, lineOf};
+use super::key::Key;
+use super::key::key_from;
+use super::reading::EnergyReading;
+use super::reading::Reading;
+use super::sheet::line_start;
+use amounts::reading::from_bits;
+use little::read::byte_at;
+use little::read::u16_at;
+use little::read::u64_at;
+
+// The key has the sheet's medium and pollutant; product and material are in kilograms.
+pub struct Line {
+    pub key: Key,
+    pub technique: usize,
+    pub reuse: usize,
+    pub product: u64,
+    pub material: u64,
+    pub reading: Reading,
+}
+
+fn float_at(s: &[u8], at: usize) -> f64
+    ensures { λ r. ⌜ r ≡ floatAt (now (s .entry)) at ⌝ }
+{
+    from_bits(u64_at(s, at))
+}
+
+fn reading_at(s: &[u8], at: usize) -> Reading
+    requires { ⌜ at < farthest ⌝ }
+    ensures { λ r. ⌜ r ≡ readingAt (now (s .entry)) at ⌝ }
+{
+    let kind = byte_at(s, at + 14);
+    if kind == 1 {
+        return Reading::Hours {
+            run: float_at(s, at + 32),
+            production: float_at(s, at + 40),
+        };
+    }
+    if kind == 2 {
+        return Reading::Energy(EnergyReading {
+            kwh: float_at(s, at + 32),
+            kw: float_at(s, at + 40),
+            hours: float_at(s, at + 48),
+        });
+    }
+    if kind == 3 {
+        return Reading::Throughout;
+    }
+    Reading::None
+}
+
+pub(crate) fn line_of(s: &[u8], i: usize) -> Line
+    requires { ⌜ i < 65536 ⌝ }
+    ensures { λ r. ⌜ r ≡ lineOf (now (s .entry)) i ⌝ }
+{
+    let at = line_start(s, i);
+    Line {
+        key: key_from(s, at, byte_at(s, 6), byte_at(s, 7)),
+        technique: u16_at(s, at + 10),
+        reuse: u16_at(s, at + 12),
+        product: u64_at(s, at + 16),
+        material: u64_at(s, at + 24),
+        reading: reading_at(s, at),
+    }
+}

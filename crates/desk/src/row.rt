@@ -1,0 +1,111 @@
+// The row search: the row with a line's key, or else the one for all scales.
+ghost use mathlib.Core.Path.{_≡_};
+ghost use mathlib.Core.Bool.{true};
+ghost use Prim.Native.Nat.{_<_};
+ghost use Rattle.little.specs.First.{Finds, first};
+ghost use Rattle.desk.specs.Book.{rowCount, rowStart, fieldsOk, bookOk};
+ghost use Rattle.desk.specs.Row.{rowHas, rowBefore, Cut, rowIndex, rowAt, ReadsRow, rowOf, FindsRow};
+use super::book::coefficient_at;
+use super::book::key_at;
+use super::book::row_start;
+use super::key::Key;
+use super::key::all_scales;
+use super::key::key_less;
+use super::key::key_same;
+use little::found::Found;
+use little::read::byte_at;
+use little::read::u16_at;
+
+// What a line is accounted for by: units per kilogram, and the list of techniques in the block.
+pub struct Row {
+    pub coefficient: u64,
+    pub basis: usize,
+    pub rule: usize,
+    pub first: usize,
+    pub techniques: usize,
+}
+
+pub enum RowSearch {
+    Hit(Row),
+    Miss,
+}
+
+fn row_has(b: &[u8], k: Key, i: usize) -> bool
+    requires { ⌜ i < 65536 ⌝ }
+    ensures { λ r. ⌜ r ≡ rowHas (now (b .entry)) k i ⌝ }
+{
+    key_same(key_at(b, row_start(b, i)), k)
+}
+
+fn row_before(b: &[u8], k: Key, i: usize) -> bool
+    requires { ⌜ i < 65536 ⌝ }
+    ensures { λ r. ⌜ r ≡ rowBefore (now (b .entry)) k i ⌝ }
+{
+    key_less(key_at(b, row_start(b, i)), k)
+}
+
+// How many rows stand before the key: rows rise, so that half of those in question fall away at each turn.
+fn rows_before(b: &[u8], k: Key) -> usize
+    requires { ⌜ bookOk (now b) ≡ true ⌝ }
+    ensures { λ r. ⌜ Cut (now (b .entry)) k r r ⌝ }
+{
+    let mut low = 0;
+    let mut high = u16_at(b, 4);
+    while low < high {
+        let middle = low + (high - low) / 2;
+        if row_before(b, k, middle) {
+            low = middle + 1;
+        } else {
+            high = middle;
+        }
+    }
+    low
+}
+
+fn index_of(b: &[u8], k: Key) -> Found
+    requires { ⌜ bookOk (now b) ≡ true ⌝ }
+    ensures { λ r. ⌜ Finds r (first (rowCount (now (b .entry))) (rowHas (now (b .entry)) k)) 65536 ⌝ }
+{
+    let i = rows_before(b, k);
+    if i < u16_at(b, 4) {
+        if row_has(b, k, i) {
+            return Found::At(i);
+        }
+    }
+    Found::Nothing
+}
+
+pub(crate) fn row_index(b: &[u8], k: Key) -> Found
+    requires { ⌜ bookOk (now b) ≡ true ⌝ }
+    ensures { λ r. ⌜ Finds r (rowIndex (now (b .entry)) k) 65536 ⌝ }
+{
+    let any = all_scales(k);
+    match index_of(b, k) {
+        Found::At(i) => Found::At(i),
+        Found::Nothing => index_of(b, any),
+    }
+}
+
+fn row_at(b: &[u8], i: usize) -> Row
+    requires { ⌜ (i < 65536) × (fieldsOk (now b) (rowStart (now b) i) ≡ true) ⌝ }
+    ensures { λ r. ⌜ ReadsRow r (rowAt (now (b .entry)) i) ⌝ }
+{
+    let at = row_start(b, i);
+    Row {
+        coefficient: coefficient_at(b, at) as u64,
+        basis: byte_at(b, at + 12),
+        rule: byte_at(b, at + 15),
+        first: u16_at(b, at + 20),
+        techniques: u16_at(b, at + 22),
+    }
+}
+
+pub(crate) fn row_of(b: &[u8], k: Key) -> RowSearch
+    requires { ⌜ bookOk (now b) ≡ true ⌝ }
+    ensures { λ r. ⌜ FindsRow r (rowOf (now (b .entry)) k) ⌝ }
+{
+    match row_index(b, k) {
+        Found::At(i) => RowSearch::Hit(row_at(b, i)),
+        Found::Nothing => RowSearch::Miss,
+    }
+}

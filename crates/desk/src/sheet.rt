@@ -1,0 +1,71 @@
+// The sheet: its header, and what may stand in a line.
+ghost use mathlib.Core.Path.{_≡_};
+ghost use Prim.Native.Nat.{_<_};
+ghost use Rattle.little.specs.Read.{Reads};
+ghost use Rattle.little.specs.Test.{all};
+ghost use Rattle.desk.specs.Key.{farthest};
+ghost use Rattle.desk.specs.Sheet.{sheetHeaderOk, lineStart, lineOk, lineCount, sheetOk};
+use super::house::file_ok;
+use little::read::byte_at;
+use little::read::u16_at;
+use little::read::u32_at;
+use little::read::u64_at;
+
+fn sheet_header_ok(s: &[u8]) -> bool
+    ensures { λ r. ⌜ r ≡ sheetHeaderOk (now (s .entry)) ⌝ }
+{
+    let length = u32_at(s, 0);
+    let lines = u16_at(s, 4);
+    let medium = byte_at(s, 6);
+    let pollutant = byte_at(s, 7);
+    let offset = u32_at(s, 8);
+    let unit = u32_at(s, 12);
+    let fits = (lines <= 128)
+        & (1 <= medium)
+        & (medium <= 3)
+        & (pollutant != 0)
+        & (16 <= offset)
+        & (offset + 64 * lines <= length)
+        & (1 <= unit)
+        & (unit <= 3);
+    file_ok(s, 16) & fits
+}
+
+pub(crate) fn line_start(s: &[u8], i: usize) -> usize
+    requires { ⌜ i < 65536 ⌝ }
+    ensures { λ r. ⌜ Reads r (lineStart (now (s .entry)) i) farthest ⌝ }
+{
+    u32_at(s, 8) + 64 * i
+}
+
+fn line_ok(s: &[u8], i: usize) -> bool
+    requires { ⌜ i < 65536 ⌝ }
+    ensures { λ r. ⌜ r ≡ lineOk (now (s .entry)) i ⌝ }
+{
+    let at = line_start(s, i);
+    (byte_at(s, at + 14) <= 3) & (byte_at(s, at + 15) == 0) & (u64_at(s, at + 56) == 0)
+}
+
+fn lines_ok(s: &[u8]) -> bool
+    ensures { λ r. ⌜ r ≡ all (lineCount (now (s .entry))) (lineOk (now (s .entry))) ⌝ }
+{
+    let lines = u16_at(s, 4);
+    let mut ok = true;
+    let mut i = 0;
+    while i < lines {
+        ok = ok & line_ok(s, i);
+        i += 1;
+    }
+    ok
+}
+
+// Lines are looked at only where the header is right, so that no wrong count is walked.
+pub fn sheet_ok(s: &[u8]) -> bool
+    ensures { λ r. ⌜ r ≡ sheetOk (now (s .entry)) ⌝ }
+{
+    if sheet_header_ok(s) {
+        lines_ok(s)
+    } else {
+        false
+    }
+}

@@ -1,0 +1,5 @@
+pub mod LawRead
+pub mod LawPart
+pub mod LawTest
+pub mod LawFirst
+pub mod LawNumber

@@ -1,0 +1,4 @@
+pub mod Read
+pub mod Part
+pub mod Test
+pub mod First

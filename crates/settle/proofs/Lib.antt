@@ -1,0 +1,15 @@
+pub mod LawLine
+pub mod LawNear
+pub mod LawTurn
+pub mod LawRound
+pub mod LawWalk
+pub mod LawLoop
+pub mod LawTurnOnce
+pub mod LawMirror
+pub mod LawCells
+pub mod LawTable
+pub mod LawSteps
+pub mod LawAnswer
+pub mod LawShown
+pub mod LawOneRound
+pub mod Worked

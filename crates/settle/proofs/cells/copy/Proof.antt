@@ -1,0 +1,51 @@
+use mathlib.Core.Path.{refl}
+use Prim.Native.Nat.{_≤_, _-_}
+use native.Mathlib.Omega.{arith}
+use borrow.Author.Needs.{needs}
+use lib.ListN.{length}
+use Rattle.settle.specs.Shown.{at}
+use Rattle.settle.proofs.LawCells.{Written, written-none, written-more, written-all}
+use Rattle.settle.proofs.cells.copy.Statement.{statement}
+use Rattle.settle.proofs.cells.copy.Tie as tie
+
+abbrev Inv-loop : tie.InvT-loop
+Inv-loop from t₀ i₀ t i = (i ≤ length t₀) × Written (λ j x. at from j) i t₀ t
+
+abbrev μ-loop : tie.MeasureT-loop
+μ-loop from t₀ i₀ t i = length t₀ - i
+
+loop-holds : tie.Need-loop-holds Inv-loop μ-loop
+loop-holds c = (omega arith, written-none _ (c .args .t .now))
+
+shared-slice-read-t : tie.Need-shared-slice-read-t Inv-loop μ-loop
+shared-slice-read-t c = omega (arith, c .before .loop-test .taken, c .before .before .loop .inv .1 .size)
+
+loop-less : tie.Need-loop-less Inv-loop μ-loop
+loop-less c = omega (arith, c .before .loop-test .taken, c .before .before .loop .inv .1 .size)
+
+loop-again : tie.Need-loop-again Inv-loop μ-loop
+loop-again c =
+    (omega (arith, c .before .loop-test .taken, c .before .before .loop .inv .1 .size), written-more _ (c .before .before .loop .i) (c .before .before .before .args .t .now) (c .before .before .loop .t) _ (c .before .before .loop .inv .1) (c .before .loop-test .taken) refl)
+
+same-length : tie.Need-same-length Inv-loop μ-loop
+same-length c = c .before .loop .inv .1 .size
+
+returns : tie.Need-returns Inv-loop μ-loop
+returns c = written-all _ (c .before .loop .i) (c .before .before .args .t .now) (c .before .loop .t) (c .before .before .args .from .now) (c .before .loop .inv .1) (c .loop-test .left) (omega arith) (λ j l. refl)
+
+pub copy-spec : {M : Type 1} → statement M
+copy-spec =
+    tie.close
+    (tie.spec
+    Inv-loop
+    μ-loop
+    loop-holds
+    (λ c. search needs)
+    shared-slice-read-t
+    (λ c. search needs)
+    (λ c. search needs)
+    (λ c. search needs)
+    loop-less
+    loop-again
+    same-length
+    returns)

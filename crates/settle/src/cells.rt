@@ -1,0 +1,64 @@
+// What is done to every cell: copied, mirrored, divided.
+ghost use Prim.Native.Nat.{_+_, _*_, _<_, _≤_};
+ghost use Rattle.settle.specs.Inner.{Frame};
+ghost use Rattle.settle.specs.Step.{mirror as mirrored, mirrorAt, units};
+ghost use Rattle.settle.specs.Table.{limit};
+ghost use lib.ListN.{length};
+ghost use mathlib.Core.Path.{_≡_};
+
+pub(crate) fn copy(from: &[u64], t: &mut [u64])
+    requires { ⌜ length (now t) ≡ length (now from) ⌝ }
+    ensures { λ _. ⌜ now (t .exit) ≡ now (from .entry) ⌝ }
+{
+    let mut i = 0;
+    while i < t.len() {
+        t[i] = from[i];
+        i += 1;
+    }
+}
+
+// The cell x at place j, in the mirror.
+fn mirror_cell(k: usize, n: usize, j: usize, x: u64) -> u64
+    requires { ⌜ 0 < k ⌝ }
+    requires { ⌜ n * k ≤ 645 ⌝ }
+    requires { ⌜ j + k ≤ 1000 ⌝ }
+    requires { ⌜ x ≤ limit ⌝ }
+    ensures { λ r. ⌜ r ≡ mirrorAt k n j x ⌝ }
+{
+    if j + k < n * k {
+        if j % k == 0 {
+            16000000000000000000 - x
+        } else {
+            x
+        }
+    } else {
+        if j % k == 0 {
+            x
+        } else {
+            16000000000000000000 - x
+        }
+    }
+}
+
+pub(crate) fn mirror(t: &mut [u64], k: usize, n: usize)
+    requires { ⌜ Frame k n (now t) ⌝ }
+    ensures { λ _. ⌜ now (t .exit) ≡ mirrored k n (now (t .entry)) ⌝ }
+{
+    let mut i = 0;
+    while i < t.len() {
+        let x = t[i];
+        t[i] = mirror_cell(k, n, i, x);
+        i += 1;
+    }
+}
+
+pub(crate) fn divide(t: &mut [u64], w: u64)
+    requires { ⌜ 0 < w ⌝ }
+    ensures { λ _. ⌜ now (t .exit) ≡ units w (now (t .entry)) ⌝ }
+{
+    let mut i = 0;
+    while i < t.len() {
+        t[i] = t[i] / w;
+        i += 1;
+    }
+}

@@ -1,0 +1,102 @@
+// Moves a round. The table is mirrored, and a round is the list of the cells by which its rows are entered, newest first.
+ghost use Prim.Native.Nat.{ℕ, _<_, _≤_, min};
+ghost use Rattle.settle.specs.Inner as inner;
+ghost use Rattle.settle.specs.Shown.{at, Whole};
+ghost use Rattle.settle.specs.Step as spec;
+ghost use Rattle.settle.specs.Table.{limit};
+ghost use mathlib.Core.Path.{_≡_};
+
+// Whether the round's cells go up: not if the marked cell is among them.
+fn rises(us: &[usize], mark: usize) -> bool
+    ensures { λ a. ⌜ a ≡ spec.rises mark (now (us .entry)) ⌝ }
+{
+    let mut i = 0;
+    while i < us.len() {
+        if us[i] == mark {
+            return false;
+        }
+        i += 1;
+    }
+    true
+}
+
+// How far a cell is from the next whole number, up or down.
+fn room(up: bool, w: u64, x: u64) -> u64
+    requires { ⌜ 0 < w ⌝ }
+    ensures { λ a. ⌜ a ≡ spec.room up w x ⌝ }
+{
+    if up { w - x % w } else { x % w }
+}
+
+// d if it is wanted, else 0.
+fn part(wanted: bool, d: u64) -> u64
+    ensures { λ r. ⌜ r ≡ spec.part wanted d ⌝ }
+{
+    if wanted { d } else { 0 }
+}
+
+fn lesser(a: u64, b: u64) -> u64
+    ensures { λ r. ⌜ r ≡ min a b ⌝ }
+{
+    if a < b { a } else { b }
+}
+
+// The least room over the round, which is left by column x.
+fn least(t: &[u64], w: u64, k: usize, up: bool, x: usize, us: &[usize]) -> u64
+    requires { ⌜ 0 < w ⌝ }
+    requires { ⌜ 0 < k ⌝ }
+    requires { ⌜ inner.Trail w k (now t) x (now us) ⌝ }
+    ensures { λ a. ⌜ a ≡ spec.least w k up (now (t .entry)) x (now (us .entry)) ⌝ }
+{
+    let mut i = 0;
+    let mut out = x;
+    let mut best = w;
+    while i < us.len() {
+        let u = us[i];
+        let d = u / k * k + out;
+        let a = room(up, w, t[u]);
+        let b = room(!up, w, t[d]);
+        best = lesser(best, lesser(a, b));
+        out = u % k;
+        i += 1;
+    }
+    best
+}
+
+// The round's cells up by p and down by m, their twins the other way. (The contract counts in units of w.)
+fn shift(t: &mut [u64], w: u64, k: usize, p: u64, m: u64, x: usize, us: &[usize])
+    requires { ⌜ 0 < w ⌝ }
+    requires { ⌜ 0 < k ⌝ }
+    requires { ⌜ Whole w limit ⌝ }
+    requires { ⌜ ((i : ℕ) → at (now t) i ≤ limit) ⌝ }
+    requires { ⌜ inner.Fit w k p m (now t) x (now us) ⌝ }
+    ensures { λ _. ⌜ now (t .exit) ≡ spec.shift k p m x (now (us .entry)) (now (t .entry)) ⌝ }
+{
+    let mut i = 0;
+    let mut out = x;
+    while i < us.len() {
+        let u = us[i];
+        let d = u / k * k + out;
+        let a = t[u];
+        let b = t[d];
+        t[u] = a + p - m;
+        t[d] = b + m - p;
+        out = u % k;
+        i += 1;
+    }
+}
+
+// A closed round moved by its least room.
+pub(crate) fn turned(t: &mut [u64], w: u64, k: usize, mark: usize, us: &[usize])
+    requires { ⌜ 0 < w ⌝ }
+    requires { ⌜ 0 < k ⌝ }
+    requires { ⌜ Whole w limit ⌝ }
+    requires { ⌜ ((i : ℕ) → at (now t) i ≤ limit) ⌝ }
+    requires { ⌜ inner.Closed w k (now t) (now us) ⌝ }
+    ensures { λ _. ⌜ now (t .exit) ≡ spec.moved w k mark (now (us .entry)) (now (t .entry)) ⌝ }
+{
+    let x = us[us.len() - 1] % k;
+    let up = rises(us, mark);
+    let d = least(t, w, k, up, x, us);
+    shift(t, w, k, part(up, d), part(!up, d), x, us);
+}

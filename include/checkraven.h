@@ -1,0 +1,76 @@
+/*
+ * Checkraven, the declaration desk: from a coefficient book and a sheet to
+ * two tables, exact and shown.
+ *
+ * A sheet is one works' year for one pollutant in one medium.
+ */
+#ifndef CHECKRAVEN_H
+#define CHECKRAVEN_H
+
+#include <stddef.h>
+#include <stdint.h>
+
+#ifdef __cplusplus
+extern "C" {
+#endif
+
+/* The answer for an accepted sheet. */
+#define CHECKRAVEN_ACCEPTED UINT64_C(0)
+
+/* The refusal numbers, in the order in which they are looked for. */
+#define CHECKRAVEN_BOOK_MALFORMED      1  /* book malformed or over a limit */
+#define CHECKRAVEN_SHEET_MALFORMED     2  /* sheet malformed, over a limit, or shown unit not 1 to 3 */
+#define CHECKRAVEN_RESULT_TOO_SHORT    3  /* either result shorter than 4 * (lines + 1) */
+#define CHECKRAVEN_ACTIVITY_TOO_LARGE  4  /* product or material above 10^9 kg */
+#define CHECKRAVEN_REUSE_TOO_LARGE     5  /* reuse above 1000, in any medium */
+#define CHECKRAVEN_NO_ROW              6  /* no row */
+#define CHECKRAVEN_NO_TECHNIQUE        7  /* technique not in the row's list */
+#define CHECKRAVEN_WRONG_KIND          8  /* reading kind doesn't go with the k rule */
+#define CHECKRAVEN_BAD_READING         9  /* a used reading is bad or over its limit */
+#define CHECKRAVEN_ZERO_DIVISOR       10  /* production hours, rated kW or energy run hours 0 as thousandths */
+#define CHECKRAVEN_K_ABOVE_ONE        11  /* k above 1 */
+
+/* Number and line of a refusal. The line counts from 1; 0 means a whole file. */
+#define CHECKRAVEN_NUMBER(answer) ((unsigned)((answer) / UINT64_C(65536)))
+#define CHECKRAVEN_LINE(answer)   ((unsigned)((answer) % UINT64_C(65536)))
+
+/* Cells that each result needs for a sheet of that many lines. */
+#define CHECKRAVEN_CELLS(lines) (4 * ((size_t)(lines) + 1))
+
+/* Cells that are enough for every sheet: 128 lines and the row of sums. */
+#define CHECKRAVEN_MOST_CELLS CHECKRAVEN_CELLS(128)
+
+/*
+ * Accounts for one sheet with one book.
+ *
+ * Lent for reading: the book (book_len bytes) and the sheet (sheet_len bytes).
+ * They never change.
+ * Lent for writing: the results exact (exact_len cells) and shown (shown_len
+ * cells). They overlap neither each other nor the files.
+ * No pointer is null, also where its length is 0, and both results are aligned
+ * as uint64_t. The files may stand at any address.
+ *
+ * The answer is 0 for an accepted sheet. The first 4 * (lines + 1) cells of
+ * each result then hold its table, further cells keep their values. A row has
+ * four cells: generated G, removed R, reused U, discharged D. There is one row
+ * for each line and a last row of sums.
+ *   exact: in units of 10 micrograms (1 g = 10^5, 1 kg = 10^8, 1 t = 10^11).
+ *   shown: in whole shown units of the sheet (gram, kilogram or tonne). Each
+ *          cell is the exact one in that unit where that is whole, else one of
+ *          the two whole numbers around it. In every row G = R + U + D, and in
+ *          every column the last row is the sum of the rows above.
+ *
+ * Otherwise the answer is number * 65536 + line: the first refusal in the
+ * order 1, 2, 3, then lines from 1 up, each in the order 4 to 11. All cells of
+ * both results are then zero.
+ */
+uint64_t checkraven_account(const uint8_t *book, size_t book_len,
+                            const uint8_t *sheet, size_t sheet_len,
+                            uint64_t *exact, size_t exact_len,
+                            uint64_t *shown, size_t shown_len);
+
+#ifdef __cplusplus
+}
+#endif
+
+#endif

@@ -1,0 +1,43 @@
+//! Compares both desks on cases of any sort for a while:
+//! `long_run [SECONDS] [SEED]`, by default one minute with seed 1.
+
+use peer::compare::{compare, keep};
+use peer::make::{any_case, Random};
+use std::process::ExitCode;
+use std::time::{Duration, Instant};
+
+fn main() -> ExitCode {
+    let mut words = std::env::args().skip(1).map(|word| word.parse::<u64>());
+    let mut number = |usual| words.next().unwrap_or(Ok(usual));
+    let (Ok(seconds), Ok(seed)) = (number(60), number(1)) else {
+        eprintln!("usage: long_run [SECONDS] [SEED]");
+        return ExitCode::from(2);
+    };
+    let (cases, disagreements) = run(Duration::from_secs(seconds), seed);
+    println!("{cases} cases, {disagreements} disagreements, seed {seed}");
+    if disagreements == 0 {
+        ExitCode::SUCCESS
+    } else {
+        ExitCode::FAILURE
+    }
+}
+
+fn run(length: Duration, seed: u64) -> (u64, u64) {
+    let mut random = Random::new(seed);
+    let (mut cases, mut disagreements) = (0, 0);
+    let begin = Instant::now();
+    let mut next_word = Duration::from_secs(10);
+    while begin.elapsed() < length {
+        let case = any_case(&mut random);
+        cases += 1;
+        if let Err(what) = compare(&case) {
+            disagreements += 1;
+            println!("{what}: {}", keep("long-run", &case, &what).display());
+        }
+        if begin.elapsed() >= next_word {
+            println!("{cases} cases after {} s", next_word.as_secs());
+            next_word += Duration::from_secs(10);
+        }
+    }
+    (cases, disagreements)
+}

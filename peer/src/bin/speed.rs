@@ -1,0 +1,197 @@
+//! The benchmark: the proved desk beside plain Rust in one run, on the same
+//! inputs, by turns. Prints a table in markdown.
+//!
+//! Usage: `speed [ROUNDS]`, by default 200 rounds a case.
+
+use peer::compare::{compare, earlier_cells, run_plain, Case};
+use peer::make::{Book, Line, Random, Row, Sheet, Technique};
+use peer::plain;
+use std::hint::black_box;
+use std::time::{Duration, Instant};
+
+/// Each round repeats the call until it lasts about this long.
+const ROUND: Duration = Duration::from_micros(300);
+
+fn main() {
+    let word = std::env::args().nth(1);
+    let rounds = word.and_then(|word| word.parse().ok()).unwrap_or(200usize).max(1);
+    println!(
+        "Times of one call in microseconds: median (10th to 90th percentile) of {rounds} rounds.\n"
+    );
+    println!("| Case | Proved desk | Plain Rust | Ratio |");
+    println!("|---|---|---|---|");
+    for (name, case) in cases() {
+        let outcome = compare(&case).expect("both desks agree on the case");
+        assert!(outcome.is_accepted(), "{name} is {outcome}");
+        let (proved, plain) = measure(&case, rounds);
+        let ratio = proved.median / plain.median;
+        println!("| {name} | {} | {} | {ratio:.2} |", proved.text(), plain.text());
+    }
+}
+
+fn cases() -> Vec<(String, Case)> {
+    let mut cases = vec![("typical: 5 lines, 30 rows".to_string(), typical_case())];
+    for (unit, name) in [(1, "grams"), (2, "kilograms"), (3, "tonnes")] {
+        cases.push((format!("full: 128 lines by energy, 1,024 rows, in {name}"), full_case(unit)));
+    }
+    cases.push(("hostile book: 1,024 rows of 4,096 techniques".to_string(), hostile_case()));
+    let loose = loose_case();
+    assert!(every_cell_is_loose(&loose), "no cell is whole in tonnes");
+    cases.push(("shown table of 128 loose lines, 1 row".to_string(), loose));
+    cases
+}
+
+fn every_cell_is_loose(case: &Case) -> bool {
+    let cells = 4 * (case.line_count() + 1);
+    let exact = run_plain(case).exact;
+    exact[..cells].iter().all(|cell| cell % case.shown_unit() != 0)
+}
+
+/// Five lines of one works in a book of thirty rows with three techniques each.
+fn typical_case() -> Case {
+    let row = |index: u16| Row {
+        place: [3240, 1 + index / 3, 1, 1 + index % 3],
+        ..Row::plain(1, 1, 203)
+    };
+    let book = Book {
+        rows: (0..30).map(|index| row(index).with_techniques(1, 3 * index, 3)).collect(),
+        techniques: (0..90).map(|index| technique(1 + index % 3, 700)).collect(),
+        gaps: [0; 3],
+    };
+    let line = |index: u16| {
+        let line = Line::direct(16_250_000 + index as u64).treated(2, 1, [7000.0, 7920.0, 0.0]);
+        Line { place: [3240, 1 + 2 * index, 1, 1 + index % 3], reuse: 950, ..line }
+    };
+    Case::of(&book, &Sheet::new(1, 1, 1, (0..5).map(line).collect()))
+}
+
+/// As much as both files hold, each line by energy in another row.
+fn full_case(unit: u32) -> Case {
+    let row = |index: u16| Row {
+        place: [3400, 1 + index / 32, 1 + index % 32, 1],
+        ..Row::plain(1, 1, 150)
+    };
+    let book = Book {
+        rows: (0..1024).map(|index| row(index).with_techniques(2, 4 * index, 4)).collect(),
+        techniques: (0..4096).map(|index| technique(1 + index % 4, 905)).collect(),
+        gaps: [0; 3],
+    };
+    let mut random = Random::new(1);
+    let line = |index: u16| {
+        let energy = 100.0 + random.below(1_000_000) as f64 / 1000.0;
+        let product = 1 + random.below(1_000_000_000);
+        let line = Line::direct(product).treated(4, 2, [energy, 0.5, 3600.0]);
+        Line { place: [3400, 1 + index / 4, 1 + index % 32, 1], reuse: 333, ..line }
+    };
+    Case::of(&book, &Sheet::new(1, 1, unit, (0..128).map(line).collect()))
+}
+
+/// Every row names every technique, and all share them.
+fn hostile_case() -> Case {
+    let row = |scale| Row { scale, ..Row::plain(1, 1, 150) }.with_techniques(1, 0, 4096);
+    let book = Book {
+        rows: (0..1024).map(row).collect(),
+        techniques: (1..=4096).map(|code| technique(code, 700)).collect(),
+        gaps: [0; 3],
+    };
+    let line = |scale| Line { scale, ..Line::direct(12_345).treated(4096, 3, [0.0; 3]) };
+    Case::of(&book, &Sheet::new(1, 1, 2, (0..128).map(line).collect()))
+}
+
+/// All four cells of each line, and of the sums, are loose in tonnes.
+fn loose_case() -> Case {
+    let book = Book {
+        rows: vec![Row { places: 5, ..Row::plain(1, 1, 9_999_991) }.with_techniques(1, 0, 1)],
+        techniques: vec![technique(1, 701)],
+        gaps: [0; 3],
+    };
+    let mut random = Random::new(2);
+    let mut line = |_| {
+        let run = 1.0 + random.below(7_000_000) as f64 / 1000.0;
+        let line = Line::direct(1 + random.below(999_999_999)).treated(1, 1, [run, 7919.0, 0.0]);
+        Line { reuse: 1 + random.below(999) as u16, ..line }
+    };
+    Case::of(&book, &Sheet::new(1, 1, 3, (0..128).map(&mut line).collect()))
+}
+
+fn technique(code: u16, efficiency: u16) -> Technique {
+    Technique { code, efficiency }
+}
+
+struct Times {
+    low: f64,
+    median: f64,
+    high: f64,
+}
+
+impl Times {
+    fn of(mut microseconds: Vec<f64>) -> Self {
+        microseconds.sort_by(f64::total_cmp);
+        let at = |percent: usize| microseconds[(microseconds.len() - 1) * percent / 100];
+        Times { low: at(10), median: at(50), high: at(90) }
+    }
+
+    fn text(&self) -> String {
+        format!("{:.2} ({:.2} to {:.2})", self.median, self.low, self.high)
+    }
+}
+
+/// The results as they were before each round; this isn't timed.
+struct Results {
+    exact: Vec<u64>,
+    shown: Vec<u64>,
+}
+
+impl Results {
+    fn as_before(case: &Case) -> Self {
+        Results {
+            exact: earlier_cells(case.exact_len).collect(),
+            shown: earlier_cells(case.shown_len).collect(),
+        }
+    }
+}
+
+fn call_proved(case: &Case, results: &mut Results) {
+    let Results { exact, shown } = results;
+    let outcome = checkraven::account(black_box(&case.book), black_box(&case.sheet), exact, shown);
+    black_box(outcome.is_accepted());
+}
+
+fn call_plain(case: &Case, results: &mut Results) {
+    let Results { exact, shown } = results;
+    let answer = plain::account(black_box(&case.book), black_box(&case.sheet), exact, shown);
+    black_box(answer.is_ok());
+}
+
+type Call = fn(&Case, &mut Results);
+
+/// Both desks by turns, and by turns which of them comes first.
+fn measure(case: &Case, rounds: usize) -> (Times, Times) {
+    let calls: [Call; 2] = [call_proved, call_plain];
+    let repeats = calls.map(|call| repeats_in_a_round(case, call));
+    let mut times = [Vec::with_capacity(rounds), Vec::with_capacity(rounds)];
+    for round in 0..rounds {
+        for turn in 0..2 {
+            let desk = (round + turn) % 2;
+            times[desk].push(one_round(case, calls[desk], repeats[desk]));
+        }
+    }
+    let [proved, plain] = times.map(Times::of);
+    (proved, plain)
+}
+
+fn repeats_in_a_round(case: &Case, call: Call) -> u32 {
+    let once = (0..5).map(|_| one_round(case, call, 1)).fold(f64::INFINITY, f64::min);
+    (ROUND.as_secs_f64() * 1e6 / once.max(0.01)).clamp(1.0, 10_000.0) as u32
+}
+
+/// Microseconds of one call.
+fn one_round(case: &Case, call: Call, repeats: u32) -> f64 {
+    let mut results = Results::as_before(case);
+    let begin = Instant::now();
+    for _ in 0..repeats {
+        call(case, &mut results);
+    }
+    black_box(&results.shown);
+    begin.elapsed().as_secs_f64() * 1e6 / repeats as f64
+}

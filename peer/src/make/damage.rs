@@ -1,0 +1,154 @@
+//! Damages: changes to a case that may or may not make it be refused. Which
+//! of the two is for the desks to agree on.
+
+use super::edges;
+use super::random::Random;
+use crate::compare::Case;
+
+/// Does one to three damages to a case.
+pub fn damage(random: &mut Random, case: &mut Case) {
+    for _ in 0..1 + random.below(3) {
+        match random.below(10) {
+            0 => change_byte(random, &mut case.book),
+            1 => change_byte(random, &mut case.sheet),
+            2 => change_header(random, &mut case.book),
+            3 => change_header(random, &mut case.sheet),
+            4 => change_book_field(random, &mut case.book),
+            5 => change_length(random, case),
+            6 => case.exact_len = random.index(case.exact_len + 4),
+            7 => case.shown_len = random.index(case.shown_len + 4),
+            _ => change_line_field(random, &mut case.sheet),
+        }
+    }
+}
+
+/// Bytes without form, most often with their own length in front so that more
+/// than the length is looked at.
+pub fn formless_case(random: &mut Random) -> Case {
+    let mut case = Case::with_room(formless_file(random), formless_file(random));
+    if random.chance(10) {
+        case.exact_len = random.index(20);
+        case.shown_len = random.index(20);
+    }
+    case
+}
+
+fn formless_file(random: &mut Random) -> Vec<u8> {
+    let length = if random.chance(50) { random.index(33) } else { random.index(400) };
+    let mut file = random.bytes(length);
+    if random.chance(80) {
+        own_length(&mut file);
+    }
+    if random.chance(60) && length >= 16 {
+        // A header of small numbers gets further than one of any numbers.
+        file[4..16].fill_with(|| random.pick(&[0, 0, 0, 1, 2, 16, 40]));
+    }
+    file
+}
+
+/// Writes the file's length into its header, if there is room for it.
+pub fn own_length(file: &mut [u8]) {
+    let length = (file.len() as u32).to_le_bytes();
+    if file.len() >= 4 {
+        file[..4].copy_from_slice(&length);
+    }
+}
+
+fn change_byte(random: &mut Random, file: &mut [u8]) {
+    if !file.is_empty() {
+        let at = random.index(file.len());
+        file[at] = random.bits() as u8;
+    }
+}
+
+/// A header field becomes an edge, or moves a little.
+fn change_header(random: &mut Random, file: &mut [u8]) {
+    let (at, width) = random.pick(&[(0, 4), (4, 2), (6, 2), (6, 1), (7, 1), (8, 4), (12, 4)]);
+    change_field(random, file, at, width);
+}
+
+fn change_book_field(random: &mut Random, book: &mut [u8]) {
+    let row_offset = u32_at(book, 8) as usize;
+    let rows = u16_at(book, 4) as usize;
+    if rows == 0 {
+        return change_header(random, book);
+    }
+    let (at, width) = random.pick(&[
+        (0, 2),
+        (8, 2),
+        (10, 1),
+        (11, 1),
+        (12, 1),
+        (13, 1),
+        (14, 1),
+        (15, 1),
+        (16, 4),
+        (20, 2),
+        (22, 2),
+    ]);
+    let row = row_offset + 24 * random.index(rows);
+    change_field(random, book, row + at, width);
+}
+
+fn change_line_field(random: &mut Random, sheet: &mut [u8]) {
+    let line_offset = u32_at(sheet, 8) as usize;
+    let lines = u16_at(sheet, 4) as usize;
+    if lines == 0 {
+        return change_header(random, sheet);
+    }
+    let line = line_offset + 64 * random.index(lines);
+    if random.chance(40) {
+        let bits = random.pick(&edges::readings());
+        let at = random.pick(&[32, 40, 48]);
+        return write_field(sheet, line + at, 8, bits);
+    }
+    let (at, width) = random.pick(&[
+        (0, 2),
+        (2, 2),
+        (8, 2),
+        (10, 2),
+        (12, 2),
+        (14, 1),
+        (15, 1),
+        (16, 8),
+        (24, 8),
+        (56, 1),
+        (63, 1),
+    ]);
+    change_field(random, sheet, line + at, width);
+}
+
+fn change_length(random: &mut Random, case: &mut Case) {
+    let fix = random.chance(50);
+    let file = if random.chance(50) { &mut case.book } else { &mut case.sheet };
+    if random.chance(50) {
+        let length = random.index(file.len() + 1);
+        file.truncate(length);
+    } else {
+        let more = 1 + random.index(70);
+        file.extend(random.bytes(more));
+    }
+    if fix {
+        own_length(file);
+    }
+}
+
+fn change_field(random: &mut Random, file: &mut [u8], at: usize, width: usize) {
+    let number = if random.chance(70) { random.pick(&edges::NUMBERS) } else { random.bits() };
+    write_field(file, at, width, number);
+}
+
+/// Does nothing where an earlier damage has moved the place out of the file.
+fn write_field(file: &mut [u8], at: usize, width: usize, number: u64) {
+    if let Some(field) = at.checked_add(width).and_then(|end| file.get_mut(at..end)) {
+        field.copy_from_slice(&number.to_le_bytes()[..width]);
+    }
+}
+
+fn u16_at(file: &[u8], at: usize) -> u16 {
+    file.get(at..at + 2).map_or(0, |field| u16::from_le_bytes(field.try_into().unwrap()))
+}
+
+fn u32_at(file: &[u8], at: usize) -> u32 {
+    file.get(at..at + 4).map_or(0, |field| u32::from_le_bytes(field.try_into().unwrap()))
+}

@@ -1,0 +1,44 @@
+//! The four amounts of a line, in units of 10 micrograms.
+
+use super::reading::Fraction;
+
+#[derive(Clone, Copy, Debug, Default, PartialEq, Eq)]
+pub struct Amounts {
+    pub generated: u64,
+    pub removed: u64,
+    pub reused: u64,
+    pub discharged: u64,
+}
+
+/// G × efficiency × n / (1000 d), rounded down: at most 10^17 × 10^3 × 10^13
+/// before the division, which u128 holds.
+pub fn removed(generated: u64, efficiency: u16, k: Fraction) -> u64 {
+    let product = generated as u128 * efficiency as u128 * k.n as u128;
+    (product / (1000 * k.d as u128)) as u64
+}
+
+impl Amounts {
+    /// Reuse in tenths of a percent where the medium is water.
+    pub fn new(generated: u64, removed: u64, reuse: Option<u16>) -> Self {
+        let left = (generated - removed) as u128;
+        let reuse = reuse.unwrap_or(0) as u128;
+        Amounts {
+            generated,
+            removed,
+            reused: (left * reuse / 1000) as u64,
+            discharged: (left * (1000 - reuse)).div_ceil(1000) as u64,
+        }
+    }
+
+    /// Sums of 128 lines stay below 128 × 10^17, which u64 holds.
+    pub fn add(&mut self, line: &Amounts) {
+        self.generated += line.generated;
+        self.removed += line.removed;
+        self.reused += line.reused;
+        self.discharged += line.discharged;
+    }
+
+    pub fn cells(&self) -> [u64; 4] {
+        [self.generated, self.removed, self.reused, self.discharged]
+    }
+}

@@ -1,0 +1,107 @@
+//! The desk in plain Rust, written from the paper alone. It shares no code
+//! with the proved desk and is what the proved desk is compared with.
+
+mod amounts;
+mod book;
+mod bytes;
+pub mod reading;
+mod sheet;
+mod shown;
+
+use book::Book;
+use sheet::{Line, Sheet};
+
+pub use amounts::Amounts;
+
+/// A refusal: its number and the line, counted from 1; 0 for whole files.
+#[derive(Clone, Copy, Debug, PartialEq, Eq)]
+pub struct Refusal {
+    pub number: u32,
+    pub line: u32,
+}
+
+pub const BOOK_MALFORMED: u32 = 1;
+pub const SHEET_MALFORMED: u32 = 2;
+pub const RESULT_TOO_SHORT: u32 = 3;
+pub const ACTIVITY_TOO_LARGE: u32 = 4;
+pub const REUSE_TOO_LARGE: u32 = 5;
+pub const NO_ROW: u32 = 6;
+pub const NO_TECHNIQUE: u32 = 7;
+pub const WRONG_KIND: u32 = 8;
+pub const BAD_READING: u32 = 9;
+pub const ZERO_DIVISOR: u32 = 10;
+pub const K_ABOVE_ONE: u32 = 11;
+
+/// Both house files have this limit.
+const MOST_BYTES: usize = 65_536;
+const MOST_KILOGRAMS: u64 = 1_000_000_000;
+const MOST_REUSE: u16 = 1000;
+
+/// Accounts for one sheet. On refusal all cells of both results are zero; on
+/// acceptance cells past the tables keep their values.
+pub fn account(
+    book: &[u8],
+    sheet: &[u8],
+    exact: &mut [u64],
+    shown: &mut [u64],
+) -> Result<(), Refusal> {
+    let answer = fill_tables(book, sheet, exact, shown);
+    if answer.is_err() {
+        exact.fill(0);
+        shown.fill(0);
+    }
+    answer
+}
+
+fn fill_tables(
+    book: &[u8],
+    sheet: &[u8],
+    exact: &mut [u64],
+    shown: &mut [u64],
+) -> Result<(), Refusal> {
+    let whole_file = |number| Refusal { number, line: 0 };
+    let book = Book::read(book).ok_or(whole_file(BOOK_MALFORMED))?;
+    let sheet = Sheet::read(sheet).ok_or(whole_file(SHEET_MALFORMED))?;
+    let cells = 4 * (sheet.line_count() + 1);
+    if exact.len() < cells || shown.len() < cells {
+        return Err(whole_file(RESULT_TOO_SHORT));
+    }
+    fill_exact(&book, &sheet, &mut exact[..cells])?;
+    shown::fill(&exact[..cells], sheet.shown_unit, &mut shown[..cells]);
+    Ok(())
+}
+
+fn fill_exact(book: &Book, sheet: &Sheet, exact: &mut [u64]) -> Result<(), Refusal> {
+    let (rows, sums) = exact.split_at_mut(4 * sheet.line_count());
+    let mut total = Amounts::default();
+    for (index, (line, cells)) in sheet.lines().zip(rows.chunks_exact_mut(4)).enumerate() {
+        let amounts = line_amounts(book, sheet, &line)
+            .map_err(|number| Refusal { number, line: index as u32 + 1 })?;
+        cells.copy_from_slice(&amounts.cells());
+        total.add(&amounts);
+    }
+    sums.copy_from_slice(&total.cells());
+    Ok(())
+}
+
+/// One line's amounts, or the number of its first refusal.
+fn line_amounts(book: &Book, sheet: &Sheet, line: &Line) -> Result<Amounts, u32> {
+    if line.product > MOST_KILOGRAMS || line.material > MOST_KILOGRAMS {
+        return Err(ACTIVITY_TOO_LARGE);
+    }
+    if line.reuse > MOST_REUSE {
+        return Err(REUSE_TOO_LARGE);
+    }
+    let row = book.find(line.place, line.scale, sheet.medium, sheet.pollutant).ok_or(NO_ROW)?;
+    let activity = if row.by_product { line.product } else { line.material };
+    let generated = row.coefficient * activity;
+    let removed = match line.technique {
+        0 => 0,
+        code => {
+            let efficiency = row.efficiency(code).ok_or(NO_TECHNIQUE)?;
+            let k = reading::k(row.k_rule, line.kind, line.readings)?;
+            amounts::removed(generated, efficiency, k)
+        }
+    };
+    Ok(Amounts::new(generated, removed, sheet.reuses_water().then_some(line.reuse)))
+}

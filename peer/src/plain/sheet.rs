@@ -1,0 +1,100 @@
+//! The sheet: checked once as a whole, then read line by line.
+
+use super::bytes::{u16_at, u32_at, u64_at};
+use super::MOST_BYTES;
+
+const HEADER: usize = 16;
+const LINE: usize = 64;
+const MOST_LINES: usize = 128;
+const MOST_KIND: u8 = 3;
+const WATER: u8 = 1;
+
+/// A sheet that is well formed.
+pub struct Sheet<'a> {
+    pub medium: u8,
+    pub pollutant: u8,
+    /// W: gram, kilogram or tonne in units of 10 micrograms.
+    pub shown_unit: u64,
+    lines: &'a [[u8; LINE]],
+}
+
+pub struct Line {
+    /// Industry, product, material, process.
+    pub place: [u16; 4],
+    pub scale: u16,
+    pub technique: u16,
+    pub reuse: u16,
+    pub kind: u8,
+    pub product: u64,
+    pub material: u64,
+    /// The bits of a, b and c.
+    pub readings: [u64; 3],
+}
+
+impl<'a> Sheet<'a> {
+    pub fn read(file: &'a [u8]) -> Option<Self> {
+        if file.len() < HEADER || file.len() > MOST_BYTES {
+            return None;
+        }
+        let length = u32_at(file, 0) as usize;
+        let line_count = u16_at(file, 4) as usize;
+        let (medium, pollutant) = (file[6], file[7]);
+        let line_offset = u32_at(file, 8) as usize;
+        let line_end = line_offset + line_count * LINE;
+        let well_formed = length == file.len()
+            && line_count <= MOST_LINES
+            && (1..=3).contains(&medium)
+            && pollutant != 0
+            && HEADER <= line_offset
+            && line_end <= length;
+        if !well_formed {
+            return None;
+        }
+        let shown_unit = shown_unit(u32_at(file, 12))?;
+        let lines = file[line_offset..line_end].as_chunks().0;
+        lines.iter().all(line_is_well_formed).then_some(Sheet {
+            medium,
+            pollutant,
+            shown_unit,
+            lines,
+        })
+    }
+
+    pub fn line_count(&self) -> usize {
+        self.lines.len()
+    }
+
+    pub fn lines(&self) -> impl Iterator<Item = Line> + 'a {
+        self.lines.iter().map(read_line)
+    }
+
+    pub fn reuses_water(&self) -> bool {
+        self.medium == WATER
+    }
+}
+
+fn shown_unit(code: u32) -> Option<u64> {
+    match code {
+        1 => Some(100_000),
+        2 => Some(100_000_000),
+        3 => Some(100_000_000_000),
+        _ => None,
+    }
+}
+
+fn line_is_well_formed(line: &[u8; LINE]) -> bool {
+    line[14] <= MOST_KIND && line[15] == 0 && u64_at(line, 56) == 0
+}
+
+fn read_line(line: &[u8; LINE]) -> Line {
+    Line {
+        place: [0, 2, 4, 6].map(|at| u16_at(line, at)),
+        scale: u16_at(line, 8),
+        technique: u16_at(line, 10),
+        reuse: u16_at(line, 12),
+        kind: line[14],
+        product: u64_at(line, 16),
+        material: u64_at(line, 24),
+        readings: [32, 40, 48].map(|at| u64_at(line, at)),
+    }
+}

@@ -1,0 +1,31 @@
+//! The outcome as the program prints it.
+
+use crate::compare::Case;
+use checkraven::Outcome;
+use std::fmt::Write;
+
+/// The whole output for a case whose results the desk has filled.
+pub fn whole_output(case: &Case, outcome: Outcome, exact: &[u64], shown: &[u64]) -> String {
+    let mut text = String::new();
+    match outcome {
+        Outcome::Refused { number, line } => {
+            writeln!(text, "refused {number} line {line}").expect("strings take all text");
+        }
+        Outcome::Accepted => {
+            let cells = 4 * (case.line_count() + 1);
+            write_table(&mut text, "exact", &exact[..cells]);
+            writeln!(text, "unit {}", case.shown_unit()).expect("strings take all text");
+            write_table(&mut text, "shown", &shown[..cells]);
+        }
+    }
+    text
+}
+
+fn write_table(text: &mut String, name: &str, cells: &[u64]) {
+    let lines = cells.len() / 4 - 1;
+    for (row, cells) in cells.chunks_exact(4).enumerate() {
+        let label = if row < lines { (row + 1).to_string() } else { "total".to_string() };
+        let [g, r, u, d] = [cells[0], cells[1], cells[2], cells[3]];
+        writeln!(text, "{name} {label} {g} {r} {u} {d}").expect("strings take all text");
+    }
+}

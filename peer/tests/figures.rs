@@ -1,0 +1,177 @@
+//! The paper's own figures, on both desks.
+
+use peer::compare::{run_proved, Case, Tally};
+use peer::make::{Book, Line, Row, Sheet, Technique};
+use peer::print::whole_output;
+
+/// Coefficient digits and places in kg/t, activity in kg: together G.
+struct Amount {
+    digits: u32,
+    places: u8,
+    kilograms: u64,
+}
+
+/// G units from the coefficient of one unit per kilogram.
+const fn units(generated: u64) -> Amount {
+    Amount { digits: 1, places: 5, kilograms: generated }
+}
+
+struct Figure {
+    amount: Amount,
+    efficiency: u16,
+    reading: (u8, [f64; 3]),
+    reuse: u16,
+    expected: [u64; 4],
+}
+
+const THROUGHOUT: (u8, [f64; 3]) = (3, [0.0; 3]);
+
+fn case(figure: &Figure, medium: u8) -> Case {
+    let Amount { digits, places, kilograms } = figure.amount;
+    let (kind, readings) = figure.reading;
+    let k_rule = if kind == 2 { 2 } else { 1 };
+    let row = Row { places, ..Row::plain(medium, 1, digits) };
+    let book = Book {
+        rows: vec![row.with_techniques(k_rule, 0, 1)],
+        techniques: vec![Technique { code: 1, efficiency: figure.efficiency }],
+        gaps: [0; 3],
+    };
+    let line = Line::direct(kilograms).treated(1, kind, readings);
+    let line = Line { reuse: figure.reuse, ..line };
+    Case::of(&book, &Sheet::new(medium, 1, 1, vec![line]))
+}
+
+fn check(tally: &mut Tally, figure: &Figure, medium: u8) {
+    let case = case(figure, medium);
+    tally.expect_accepted(&case);
+    let filled = run_proved(&case).expect("the memory around is kept");
+    assert_eq!(filled.exact[..4], figure.expected, "the line");
+    assert_eq!(filled.exact[4..8], figure.expected, "the sums");
+}
+
+#[test]
+fn the_amounts_marked_p() {
+    let figure = |amount, efficiency, reading, reuse, expected| Figure {
+        amount,
+        efficiency,
+        reading,
+        reuse,
+        expected,
+    };
+    let third = (1, [1.0, 3.0, 0.0]);
+    let half_of_the_hours = (1, [4000.0, 8000.0, 0.0]);
+    let half_of_the_energy = (2, [900.0, 0.5, 3600.0]);
+    let document_000 = Amount { digits: 20_352, places: 5, kilograms: 16_250_000 };
+    let document_004 = Amount { digits: 1279, places: 2, kilograms: 210_000 };
+    let figures = [
+        figure(units(0), 700, THROUGHOUT, 950, [0, 0, 0, 0]),
+        figure(units(1), 700, THROUGHOUT, 950, [1, 0, 0, 1]),
+        figure(units(10), 995, third, 500, [10, 3, 3, 4]),
+        figure(units(1000), 700, half_of_the_hours, 0, [1000, 350, 0, 650]),
+        figure(units(1000), 950, half_of_the_energy, 0, [1000, 475, 0, 525]),
+        figure(units(1000), 1000, THROUGHOUT, 0, [1000, 1000, 0, 0]),
+        figure(units(1000), 700, THROUGHOUT, 1000, [1000, 700, 300, 0]),
+        figure(
+            document_000,
+            700,
+            THROUGHOUT,
+            950,
+            [330720000000, 231504000000, 94255200000, 4960800000],
+        ),
+        figure(
+            document_004,
+            700,
+            THROUGHOUT,
+            900,
+            [268590000000, 188013000000, 72519300000, 8057700000],
+        ),
+    ];
+    let mut tally = Tally::new("the_amounts_marked_p");
+    figures.iter().for_each(|figure| check(&mut tally, figure, 1));
+}
+
+#[test]
+fn document_002_runs_throughout() {
+    let figure = Figure {
+        amount: Amount { digits: 150, places: 0, kilograms: 198_244_000 },
+        efficiency: 990,
+        reading: THROUGHOUT,
+        reuse: 0,
+        expected: [2973660000000000, 2943923400000000, 0, 29736600000000],
+    };
+    check(&mut Tally::new("document_002_runs_throughout"), &figure, 2);
+}
+
+/// 8784 hours, 10^9 kg and 8000 of 8000 hours are taken; a little more isn't.
+#[test]
+fn the_limits_of_the_paper() {
+    let mut tally = Tally::new("the_limits_of_the_paper");
+    let line = |kilograms, run, production| Figure {
+        amount: units(kilograms),
+        efficiency: 700,
+        reading: (1, [run, production, 0.0]),
+        reuse: 0,
+        expected: [0; 4],
+    };
+    tally.expect_accepted(&case(&line(5, 8784.0, 8784.0), 1));
+    tally.expect_refused(&case(&line(5, 8784.0, 8784.001), 1), 9, 1);
+    tally.expect_accepted(&case(&line(1_000_000_000, 8.0, 9.0), 1));
+    tally.expect_refused(&case(&line(1_000_000_001, 8.0, 9.0), 1), 4, 1);
+    tally.expect_accepted(&case(&line(5, 8000.0, 8000.0), 1));
+    tally.expect_refused(&case(&line(5, 8000.001, 8000.0), 1), 11, 1);
+}
+
+/// A reading's thousandths seen through k = reading / 1000 hours and G = 10^9.
+#[test]
+fn reading_figures_through_the_desk() {
+    let mut tally = Tally::new("reading_figures_through_the_desk");
+    for (number, thousandths) in [(0.0625, 63), (0.1, 100), (7.999999999, 8000), (8.0, 8000)] {
+        let removed = 1000 * thousandths;
+        let figure = Figure {
+            amount: units(1_000_000_000),
+            efficiency: 1000,
+            reading: (1, [number, 1000.0, 0.0]),
+            reuse: 0,
+            expected: [1_000_000_000, removed, 0, 1_000_000_000 - removed],
+        };
+        check(&mut tally, &figure, 1);
+    }
+}
+
+/// Two lines of 150,000 units in grams show 1 and 2 in either order.
+#[test]
+fn two_lines_of_one_and_a_half_grams() {
+    let mut tally = Tally::new("two_lines_of_one_and_a_half_grams");
+    let book = Book { rows: vec![Row { places: 5, ..Row::plain(2, 1, 1) }], ..Book::default() };
+    let case = Case::of(&book, &Sheet::new(2, 1, 1, vec![Line::direct(150_000); 2]));
+    tally.expect_accepted(&case);
+    let filled = run_proved(&case).expect("the memory around is kept");
+    let mut rows = [filled.shown[0], filled.shown[4]];
+    rows.sort();
+    assert_eq!((rows, filled.shown[8]), ([1, 2], 3));
+}
+
+/// The whole output of document 000's case, letter by letter.
+#[test]
+fn document_000_prints_as_in_the_paper() {
+    let mut tally = Tally::new("document_000_prints_as_in_the_paper");
+    let row = Row { unit: 1, places: 2, ..Row::plain(1, 1, 20_352) };
+    let book = Book {
+        rows: vec![row.with_techniques(1, 0, 1)],
+        techniques: vec![Technique { code: 1, efficiency: 700 }],
+        gaps: [0; 3],
+    };
+    let line = Line::direct(16_250_000).treated(1, 1, [7920.0, 7920.0, 0.0]);
+    let case = Case::of(&book, &Sheet::new(1, 1, 1, vec![Line { reuse: 950, ..line }]));
+    tally.expect_accepted(&case);
+    let filled = run_proved(&case).expect("the memory around is kept");
+    let text = whole_output(&case, filled.outcome, &filled.exact, &filled.shown);
+    let expected = "\
+exact 1 330720000000 231504000000 94255200000 4960800000
+exact total 330720000000 231504000000 94255200000 4960800000
+unit 100000
+shown 1 3307200 2315040 942552 49608
+shown total 3307200 2315040 942552 49608
+";
+    assert_eq!(text, expected);
+}

@@ -1,0 +1,34 @@
+//! The one place where the proved desk is called: all `unsafe` code is here.
+
+extern "C" {
+    fn checkraven_account(
+        book: *const u8,
+        book_len: usize,
+        sheet: *const u8,
+        sheet_len: usize,
+        exact: *mut u64,
+        exact_len: usize,
+        shown: *mut u64,
+        shown_len: usize,
+    ) -> u64;
+}
+
+pub(crate) fn account(book: &[u8], sheet: &[u8], exact: &mut [u64], shown: &mut [u64]) -> u64 {
+    // SAFETY: the header asks that each pointer stands for so many cells, that
+    // none is null, and that the results are aligned and overlap nothing. A
+    // slice's pointer and length are just that, also when it is empty, and two
+    // `&mut` slices overlap neither each other nor any shared one. The desk
+    // reads the files, writes only within the results and keeps no pointer.
+    unsafe {
+        checkraven_account(
+            book.as_ptr(),
+            book.len(),
+            sheet.as_ptr(),
+            sheet.len(),
+            exact.as_mut_ptr(),
+            exact.len(),
+            shown.as_mut_ptr(),
+            shown.len(),
+        )
+    }
+}

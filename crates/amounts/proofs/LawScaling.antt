@@ -68,12 +68,12 @@ pub next-parts : (b x n d q r : ℕ) → q * d + r ≡ x / b * n → (q * b + ne
 next-parts b x n d q r e =
     omega (arith, div-add-mod' (next b x n r) d, ap (λ (y : ℕ). y * n) (div-add-mod' x b), ap (λ (y : ℕ). y * b) e)
 
+pub shorter : (x b : ℕ) → (x ≡ 0 → ⊥) → 2 ≤ b → x / b < x
+shorter x b h k = div-lt-self (omega arith) (omega arith)
+
 -- the base is a power of two, and at least two
 pub base-two : (d k b : ℕ) → b ≡ 2 ^ k → Digit d k → (2 ≤ b) × (b * d ≤ 2 ^ 63)
 base-two d k b e D = rw e (pow-mono (D .some), D .fits)
-
-pub shorter : (x b : ℕ) → (x ≡ 0 → ⊥) → 2 ≤ b → x / b < x
-shorter x b h k = div-lt-self (omega arith) (omega arith)
 
 -- the bounds that the digit's sum wants, W = 2 ^ 64
 next-fits : (W b x n d r : ℕ) → r < d → n ≤ d → b * d * 2 ≤ W → 0 < b → next b x n r < W
@@ -83,12 +83,15 @@ next-fits W b x n d r h k l p =
     let high : x % b * d ≤ b * d = mul-le-mul-right d (omega arith) in
     omega (arith, mul-lt-mul-of-pos-right h p)
 
-pub digit-room : (b x n d r : ℕ) → r < d → n ≤ d → 2 ≤ b → b * d ≤ 2 ^ 63 → (r * b < 2 ^ 64) × (x % b * n < 2 ^ 64) × (next b x n r < 2 ^ 64)
-digit-room b x n d r h k p l = go (2 ^ 64) (omega arith)
+pub digit-room : (b x n d r k : ℕ) → b ≡ 2 ^ k → Digit d k → r < d → n ≤ d → (r * b < 2 ^ 64) × (x % b * n < 2 ^ 64) × (next b x n r < 2 ^ 64)
+digit-room b x n d r k e D h l = go (2 ^ 64) (omega (arith, P .1))
   where
+    P : (2 ≤ b) × (b * d ≤ 2 ^ 63)
+    P = base-two d k b e D
+
     go : (W : ℕ) → b * d * 2 ≤ W → (r * b < W) × (x % b * n < W) × (next b x n r < W)
     go W f =
-        let N = next-fits W b x n d r h k f (omega arith) in
+        let N = next-fits W b x n d r h l f (omega (arith, P .0)) in
         (omega arith, omega arith, N)
 
 -- a quotient of x · n by d is at most x

@@ -11,38 +11,16 @@ use borrow.Author.Tests.{leb-true, eqb-true, le-leb, eq-eqb, ne-eqb}
 use lib.Arith.{digits-lt}
 use lib.Dec.{eqb, leb}
 use lib.ListN.{length}
+use Rattle.little.specs.Test.{all}
+use Rattle.little.proofs.LawTest.{all-at, all-of}
 use Rattle.settle.specs.Shown.{at, sum}
-use Rattle.settle.specs.Table.{limit, Shape, Good, all, cellFits, rowAddsUp, columnAddsUp, isSized, isGood}
+use Rattle.settle.specs.Table.{limit, Shape, Good, cellFits, rowAddsUp, columnAddsUp, isSized, isGood}
 use Rattle.settle.specs.Inner.{Line}
 use Rattle.settle.proofs.LawLine.{by-dec}
-
--- a loop `ok = ok & test(i)`
-pub all-start : (p : ℕ → Bool) → true ≡ all 0 p
-unfolding all
-all-start p = refl
-
-pub all-step : (p : ℕ → Bool) (i : ℕ) {ok r : Bool} → ok ≡ all i p → r ≡ p i → (ok && r) ≡ all (i + 1) p
-unfolding all
-all-step p i h e = rw (add-one, h, e)
-
-pub all-done : (p : ℕ → Bool) {i n : ℕ} {ok : Bool} → (i ≤ n) × (ok ≡ all i p) → n ≤ i → ok ≡ all n p
-all-done p {i} {n} h l = h .1 ∙ ap (λ (k : ℕ). all k p) (le-antisymm (h .0) l)
 
 both : (a b : Bool) → (a && b) ≡ true → (a ≡ true) × (b ≡ true)
 both true b h = (refl, h)
 both false b h = (h, cc)
-
-all-at : (n : ℕ) (p : ℕ → Bool) → all n p ≡ true → (i : ℕ) → i < n → p i ≡ true
-unfolding all
-all-at zero p h i l = absurd (omega arith)
-all-at (suc n) p h i l =
-    let e = both (all n p) (p n) h in
-    by-dec (ℕ-discrete i n) (λ q. rw q (e .1)) (λ q. all-at n p (e .0) i (omega arith))
-
-all-is : (n : ℕ) (p : ℕ → Bool) → ((i : ℕ) → i < n → p i ≡ true) → all n p ≡ true
-unfolding all
-all-is zero p h = refl
-all-is (suc n) p h = rw (all-is n p (λ i l. h i (omega arith)), h n (omega arith))
 
 -- a sum that is taken off x, cell by cell
 sum-most : (t : List ℕ) (b s j m : ℕ) → j ≤ m → sum t b s j ≤ sum t b s m
@@ -114,11 +92,11 @@ good-of W K n t h =
     record {
       shape = s .0;
       size = s .1;
-      most = λ i l. leb-true (at t i) limit (all-at (length t) (cellFits t) (f .0) i (omega (arith, s .1)));
+      most = λ i l. leb-true (at t i) limit (all-at (cellFits t) (length t) i (f .0) (omega (arith, s .1)));
       sums =
           record {
-            rows = λ i l. eqb-true _ _ (all-at n (rowAddsUp K t) (f .1) i l);
-            columns = λ j l. eqb-true _ _ (all-at K (columnAddsUp K n t) (e .1) j l);
+            rows = λ i l. eqb-true _ _ (all-at (rowAddsUp K t) n i (f .1) l);
+            columns = λ j l. eqb-true _ _ (all-at (columnAddsUp K n t) K j (e .1) l);
           };
     }
 
@@ -127,9 +105,9 @@ unfolding isGood isSized cellFits rowAddsUp columnAddsUp
 good-is W K n t h =
     rw (le-leb 1 W (h .shape .unit), le-leb 1 K (h .shape .wide), le-leb K 5 (h .shape .narrow), le-leb 1 n (h .shape .high), le-leb n 129 (h .shape .low), eq-eqb (limit % W) 0 (h .shape .whole), eq-eqb (length t) (n * K) (h .size))
     (rw (
-      all-is (length t) (cellFits t) (λ i l. le-leb (at t i) limit (h .most i (omega (arith, h .size)))),
-      all-is n (rowAddsUp K t) (λ i l. eq-eqb _ _ (h .sums .rows i l)),
-      all-is K (columnAddsUp K n t) (λ j l. eq-eqb _ _ (h .sums .columns j l)),
+      all-of (cellFits t) (length t) (λ i l. le-leb (at t i) limit (h .most i (omega (arith, h .size)))),
+      all-of (rowAddsUp K t) n (λ i l. eq-eqb _ _ (h .sums .rows i l)),
+      all-of (columnAddsUp K n t) K (λ j l. eq-eqb _ _ (h .sums .columns j l)),
     ) refl)
 
 -- where the last row begins

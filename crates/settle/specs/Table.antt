@@ -1,10 +1,11 @@
 -- Which tables can be settled: a statement, and the test that decides it.
 use mathlib.Core.Path.{_≡_}
-use mathlib.Core.Bool.{Bool, true, _&&_}
+use mathlib.Core.Bool.{Bool, _&&_}
 use mathlib.Core.List.{List}
-use Prim.Native.Nat.{ℕ, zero, suc, _+_, _-_, _*_, _%_, _≤_, _<_}
+use Prim.Native.Nat.{ℕ, _+_, _-_, _*_, _%_, _≤_, _<_}
 use lib.Dec.{eqb, leb}
 use lib.ListN.{length}
+use Rattle.little.specs.Test.{all}
 use Rattle.settle.specs.Shown.{at, Whole, sum, Sums}
 
 -- no cell is above it, and it is a whole number of units
@@ -26,11 +27,6 @@ pub record Good (W K n : ℕ) (t : List ℕ) : Type 0 where
   pub size : length t ≡ n * K
   pub most : (i : ℕ) → i < n * K → at t i ≤ limit
   pub sums : Sums K n t
-
--- the test holds at every number below m
-unfoldable pub all : ℕ → (ℕ → Bool) → Bool
-all zero p = true
-all (suc m) p = all m p && p m
 
 unfoldable pub cellFits : List ℕ → ℕ → Bool
 cellFits t i = leb (at t i) limit

@@ -1,11 +1,13 @@
 -- The proof of `amounts::scaling::by_digits`, which calls itself; x falls at each call. Assumes nothing.
-use Prim.Native.Nat.{ℕ, _<_, _/_}
+use Prim.Native.Nat.{ℕ, _*_, _%_, _/_, _^_, _≤_, _<_}
+use mathlib.Core.Path.{_≡_}
+use Rattle.amounts.specs.Scaling.{Digit}
 use native.Mathlib.Omega.{arith}
 use native.Mathlib.Nat.{mod-lt, lt-of-le-of-lt}
 use borrow.Author.Needs.{needs}
 use borrow.Fn.Kinds.{In}
 use borrow.Fn.PlainCycle.{Measures, is, falls, and}
-use Rattle.amounts.proofs.LawScaling.{nothing, next-parts, digit-room, quotient-most, high-most, base-two, shorter}
+use Rattle.amounts.proofs.LawScaling.{nothing, next, next-parts, digit-room, quotient-most, high-most, base-two, shorter}
 use Rattle.amounts.proofs.scaling.by_digits.Reads as by-digits
 use Rattle.amounts.proofs.scaling.power.Reads as power-reads
 use Rattle.amounts.proofs.scaling.by_digits.Kinds as by-digits-kinds
@@ -21,6 +23,9 @@ by-digits-at t = and 0 by-digits-kinds.ps (is 0 by-digits-kinds.ps μ-by-digits 
 
 abbrev by-digits-below : ℕ → In 0 by-digits-kinds.ps
 by-digits-below t = and 0 by-digits-kinds.ps (falls 0 by-digits-kinds.ps _<_ μ-by-digits t) by-digits.Pre
+
+room : (x n d r k : ℕ) {b : ℕ} → b ≡ 2 ^ k → (n ≤ d) × (0 < d) × Digit d k → r < d → (r * b < 2 ^ 64) × (x % b * n < 2 ^ 64) × (next b x n r < 2 ^ 64)
+room x n d r k {b} e p h = digit-room b x n d r k e (p .2) h (p .0)
 
 module _ (t : ℕ) where
   returns : by-digits-lts.Need-returns (power-reads.Asked, power-reads.Learnt, by-digits-below t, by-digits.Post) (by-digits-at t) by-digits.Post
@@ -41,10 +46,7 @@ module _ (t : ℕ) where
       (omega (arith, shorter (z .args .x) (c .power .result) (c .before .if1 .left) (P .0)), z .pre .1)
 
   mul-t : by-digits-lts.Need-mul-t (power-reads.Asked, power-reads.Learnt, by-digits-below t, by-digits.Post) (by-digits-at t) by-digits.Post
-  mul-t c =
-      let z = c .before .before .before .before in
-      let P = base-two _ _ _ (c .before .before .power .ensures) (z .pre .1 .2) in
-      record { fits = digit-room _ (z .args .x) _ _ _ (c .before .by-digits .ensures .rest) (z .pre .1 .0) (P .0) (P .1) .0 }
+  mul-t c = record { fits = room (c .before .before .before .before .args .x) _ _ _ _ (c .before .before .power .ensures) (c .before .before .before .before .pre .1) (c .before .by-digits .ensures .rest) .0 }
 
   rem-t : by-digits-lts.Need-rem-t (power-reads.Asked, power-reads.Learnt, by-digits-below t, by-digits.Post) (by-digits-at t) by-digits.Post
   rem-t c =
@@ -52,16 +54,10 @@ module _ (t : ℕ) where
       omega arith
 
   mul-t-2 : by-digits-lts.Need-mul-t-2 (power-reads.Asked, power-reads.Learnt, by-digits-below t, by-digits.Post) (by-digits-at t) by-digits.Post
-  mul-t-2 c =
-      let z = c .before .before .before .before in
-      let P = base-two _ _ _ (c .before .before .power .ensures) (z .pre .1 .2) in
-      record { fits = digit-room _ (z .args .x) _ _ _ (c .before .by-digits .ensures .rest) (z .pre .1 .0) (P .0) (P .1) .1 }
+  mul-t-2 c = record { fits = room (c .before .before .before .before .args .x) _ _ _ _ (c .before .before .power .ensures) (c .before .before .before .before .pre .1) (c .before .by-digits .ensures .rest) .1 }
 
   add-t : by-digits-lts.Need-add-t (power-reads.Asked, power-reads.Learnt, by-digits-below t, by-digits.Post) (by-digits-at t) by-digits.Post
-  add-t c =
-      let z = c .before .before .before .before in
-      let P = base-two _ _ _ (c .before .before .power .ensures) (z .pre .1 .2) in
-      record { fits = digit-room _ (z .args .x) _ _ _ (c .before .by-digits .ensures .rest) (z .pre .1 .0) (P .0) (P .1) .2 }
+  add-t c = record { fits = room (c .before .before .before .before .args .x) _ _ _ _ (c .before .before .power .ensures) (c .before .before .before .before .pre .1) (c .before .by-digits .ensures .rest) .2 }
 
   mul-q : by-digits-lts.Need-mul-t10 (power-reads.Asked, power-reads.Learnt, by-digits-below t, by-digits.Post) (by-digits-at t) by-digits.Post
   mul-q c =

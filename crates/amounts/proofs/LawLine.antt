@@ -1,14 +1,12 @@
 -- What may be worked, as a test and as facts, and what is owed of a line's amounts. Assumes nothing.
 use mathlib.Core.Path.{_≡_, refl, sym, ap, _∙_}
-use mathlib.Core.Bool.{Bool, true, false, cond, _&&_}
+use mathlib.Core.Bool.{Bool, true, false, _&&_}
 use Prim.Native.Nat.{ℕ, suc, _+_, _-_, _*_, _/_, _%_, _≤_, _<_}
 use native.Mathlib.Nat.{mul-le-mul-right, mul-le-mul-left, mod-lt, div-add-mod', div-le-of-le-mul, mul-assoc}
 use native.Mathlib.Omega.{arith}
-use lib.Dec.{leb, ltb}
 use borrow.Author.Tests.{le-leb, lt-ltb, leb-true, ltb-true}
 use Rattle.amounts.specs.declared.line.Amounts.{Amounts}
-use Rattle.amounts.specs.declared.line.Worked.{Worked}
-use Rattle.amounts.specs.declared.line.Worked.the-variants.{Line, Bad}
+use Rattle.amounts.specs.declared.line.Worked.the-variants.{Line}
 use Rattle.amounts.specs.Line.{removedOf, reusedOf, dischargedOf, amountsOf, Admissible, admissible, workedOf, unused, manualValue, Sound}
 
 -- ---- the test

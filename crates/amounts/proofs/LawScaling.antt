@@ -1,6 +1,6 @@
 -- Quotients and remainders by d, added, doubled and taken digit by digit. Assumes nothing.
 use mathlib.Core.Path.{_≡_, sym, ap, _∙_}
-use Prim.Native.Nat.{ℕ, _+_, _-_, _*_, _/_, _%_, _^_, _≤_, _<_}
+use Prim.Native.Nat.{ℕ, _+_, _*_, _/_, _%_, _^_, _≤_, _<_}
 use native.Mathlib.Nat.{lt-of-mul-lt-mul-right, le-of-mul-le-mul-right, mul-le-mul-left, mul-le-mul-right, mul-lt-mul-of-pos-right, lt-of-le-of-lt, div-add-mod', mod-lt, div-mul-le-self, div-lt-self}
 use native.Mathlib.Omega.{arith}
 use lib.Arith.{digits-div}

@@ -12,7 +12,7 @@ use Rattle.little.specs.declared.found.Found.{Found}
 use Rattle.little.specs.declared.found.Found.the-variants.{At, Nothing}
 use Rattle.little.proofs.LawTest.{by-test, and-left, and-right}
 use Rattle.little.proofs.LawFirst.{first-below}
-use Rattle.amounts.specs.Line.{Admissible, amountsOf, workedOf}
+use Rattle.amounts.specs.Line.{Admissible, amountsOf, workedOf, manualValue, Sound}
 use Rattle.amounts.specs.declared.line.Amounts.{Amounts}
 use Rattle.amounts.specs.declared.line.Worked.{Worked}
 use Rattle.amounts.proofs.LawLine.{worked-line, sound}
@@ -139,3 +139,13 @@ account-balances b line good =
 pub line-balances : (b s : List ℕ) → bookOk b ≡ true → (i : ℕ) → Balances (lineOutcome b s i)
 unfolding lineOutcome
 line-balances b s good i = account-balances b (lineOf s i) good
+
+-- ---- demand 2 of a line: its amounts add up, and D is not below the manual's exact value, worked from the line's own numbers, and less than two units above it
+
+pub line-sound : (b : List ℕ) (line : Line) (row : Row) (e n d : ℕ) → bookOk b ≡ true → line .reuse ≤ 1000 → rowOf b (line .key) ≡ Hit row
+    → treatmentOf (techniqueBlock b) row (line .technique) (line .reading) ≡ By e n d
+    → Sound (manualValue (generatedOf row line) e n d (line .reuse) (eqb (line .key .medium) 1)) (amountsOf (generatedOf row line) e n d (line .reuse) (eqb (line .key .medium) 1))
+line-sound b line row e n d good reuse hit by =
+    let g = hit-good b (line .key) row good hit in
+    sound (generatedOf row line) e n d (line .reuse) (eqb (line .key .medium) 1)
+    (treatment-admissible (line .reuse) reuse (techniqueBlock b) row g (line .reading) (line .technique) e n d by)

@@ -1,5 +1,5 @@
 -- What a good book says of its rows.
-use Prim.Native.Nat.{ℕ, zero, suc, _+_, _*_, _-_, _^_, _≤_, _<_}
+use Prim.Native.Nat.{ℕ, zero, suc, _+_, _*_, _^_, _≤_, _<_}
 use mathlib.Core.Bool.{true, _||_, not}
 use mathlib.Core.Path.{_≡_, refl}
 use mathlib.Core.List.{List, [], _∷_}
@@ -8,7 +8,7 @@ use lib.Dec.{leb, eqb}
 use lib.ListN.{getD}
 use borrow.Author.Tests.{leb-true, eqb-true}
 use Rattle.little.specs.Test.{all}
-use Rattle.little.proofs.LawTest.{and-left, and-right, all-at, every-at}
+use Rattle.little.proofs.LawTest.{and-right, all-at, every-at}
 use Rattle.desk.specs.House.{fileOk}
 use Rattle.desk.specs.Book.{bookHeader, bookFits, rowCount, rowStart, fieldsAt, techniqueBlock, techniqueCount, techniqueEfficiency, techniqueOk, techniquesOk, bookHeaderOk, fieldsOk, coefficientAt, rowOk, bookOk}
 
@@ -52,12 +52,6 @@ techniques-few b h = leb-true (techniqueCount b) 4096 (every-at _ (and-right (fi
 -- ---- rows of a good book
 
 module _ (b : List ℕ) (good : bookOk b ≡ true) where
-  pub rows-few : rowCount b ≤ 1024
-  unfolding bookOk bookHeaderOk
-  rows-few =
-      let header = and-left (bookHeaderOk b) (all (rowCount b) (rowOk b (techniqueBlock b))) good in
-      leb-true (rowCount b) 1024 (every-at _ (and-right (fileOk b 16) (bookFits (bookHeader b)) header) 0)
-
   pub row-good : (i : ℕ) → i < rowCount b → rowOk b (techniqueBlock b) i ≡ true
   unfolding bookOk
   row-good i l = all-at (rowOk b (techniqueBlock b)) (rowCount b) i (and-right (bookHeaderOk b) (all (rowCount b) (rowOk b (techniqueBlock b))) good) l

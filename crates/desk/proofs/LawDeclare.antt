@@ -1,17 +1,14 @@
 -- An exact table is one that can be settled: its sums are right and its cells are small. And what follows for the shown cells.
-use Prim.Native.Nat.{ℕ, zero, suc, _+_, _*_, _-_, _/_, _%_, _≤_, _<_, min}
+use Prim.Native.Nat.{ℕ, zero, suc, _+_, _*_, _-_, _/_, _%_, _≤_, _<_}
 use mathlib.Core.Path.{_≡_, refl, sym, ap, subst, _∙_}
 use mathlib.Core.Bool.{Bool, true, false, cond}
-use mathlib.Core.List.{List, [], _∷_, _++_, append-assoc}
-use mathlib.Core.Logic.{_⊎_, inl, inr, ⊎-elim}
+use mathlib.Core.List.{List, _++_, append-assoc}
+use mathlib.Core.Logic.{⊎-elim}
 use native.Mathlib.Omega.{arith}
-use native.Mathlib.Nat.{le-of-suc-le-suc, eq-or-lt-of-le, div-add-mod', mod-lt, div-lt-iff-lt-mul, mul-comm}
-use borrow.Author.Tests.{leb-true}
-use lib.ListN.{length, take, drop, getD, replicate, length-append, List·getD-append}
+use native.Mathlib.Nat.{le-of-suc-le-suc, eq-or-lt-of-le, div-add-mod', mod-lt, div-lt-iff-lt-mul}
+use lib.ListN.{length, take, drop, replicate, length-append, List·getD-append}
 use lib.Seq.{getD-append-add, take-at}
-use lib.Dec.{eqb, leb, lit<, lit≤}
-use Rattle.little.specs.Test.{all}
-use Rattle.little.proofs.LawTest.{by-test, and-left, every-at}
+use lib.Dec.{eqb, lit<, lit≤}
 use Rattle.settle.specs.Shown.{at, Whole, sum, Sums, Shown}
 use Rattle.settle.specs.Table.{limit, Good}
 use Rattle.settle.specs.Step.{shownTable}
@@ -20,18 +17,14 @@ use Rattle.settle.specs.declared.Settled.{Settled}
 use Rattle.settle.proofs.LawAnswer.{showing}
 use Rattle.settle.proofs.LawShown.{shown-length, shown-law, shown-more}
 use Rattle.amounts.specs.declared.line.Amounts.{Amounts}
-use Rattle.desk.specs.Book.{bookOk}
-use Rattle.desk.specs.Sheet.{sheetOk}
-use Rattle.desk.specs.Account.{lineOutcome}
 use Rattle.desk.specs.Tally.{start, add, sums}
 use Rattle.desk.specs.Table.{width, rowCells, amountsGiven, rows, total, tableOf, cellsAfter}
 use Rattle.desk.specs.Declare.{unitOf, shownAfter, BothAfter}
 use Rattle.desk.specs.declared.tally.Tally.{Tally}
 use Rattle.desk.specs.declared.account.LineOutcome.{LineOutcome}
-use Rattle.desk.specs.declared.table.Outcome.{Outcome}
 use Rattle.desk.specs.declared.table.Outcome.the-variants.{Accepted, Refused}
-use Rattle.desk.proofs.LawAccount.{Balanced, Balances, lineMost, line-balances}
-use Rattle.desk.proofs.LawTable.{length-rows, line-balanced, total-balanced, lines-few}
+use Rattle.desk.proofs.LawAccount.{Balanced, Balances, lineMost}
+use Rattle.desk.proofs.LawTable.{length-rows, line-balanced, total-balanced}
 
 -- each unit of a sheet divides the limit of a cell
 unit-whole : (code : ℕ) → (0 < unitOf code) × Whole (unitOf code) limit

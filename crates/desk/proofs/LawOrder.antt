@@ -1,20 +1,19 @@
 -- The order of keys, and what rising rows make of a search that halves.
 use Prim.Native.Nat.{ℕ, zero, suc, _+_, _-_, _≤_, _<_}
-use mathlib.Core.Path.{_≡_, refl, sym, ap, subst, _∙_}
-use mathlib.Core.Bool.{Bool, true, false, _&&_, _||_}
+use mathlib.Core.Path.{_≡_, refl, sym, ap, _∙_}
+use mathlib.Core.Bool.{true, false, _&&_, _||_}
 use mathlib.Core.List.{List, [], _∷_}
 use mathlib.Core.Logic.{_⊎_, inl, inr, ⊎-elim}
 use native.Mathlib.Nat.{le-of-suc-le-suc, eq-or-lt-of-le}
 use native.Mathlib.Omega.{arith}
 use borrow.Author.Tests.{ltb-true, eqb-true, lt-ltb, le-ltb, eq-eqb, ne-eqb}
 use lib.Dec.{ltb, eqb}
-use Rattle.little.specs.Test.{every}
 use Rattle.little.specs.First.{first}
 use Rattle.little.specs.declared.found.Found.the-variants.{At, Nothing}
 use Rattle.little.proofs.LawTest.{by-test, and-left, and-right, every-at}
 use Rattle.little.proofs.LawFirst.{first-start, first-here, first-rest}
 use Rattle.desk.specs.Key.{keyFields, before, keyLess, keySame}
-use Rattle.desk.specs.Book.{rowCount, rowStart, keyAt, techniqueBlock, rises, rowOk, bookOk}
+use Rattle.desk.specs.Book.{rowCount, rowStart, keyAt, rises, rowOk, bookOk}
 use Rattle.desk.specs.Row.{rowHas, rowBefore, Cut}
 use Rattle.desk.specs.declared.key.Key.{Key}
 use Rattle.desk.proofs.LawBook.{row-good}

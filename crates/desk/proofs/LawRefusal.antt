@@ -1,12 +1,11 @@
 -- A refusal has one of the paper's numbers, 1 to 11, and the number of a line, or 0.
-use Prim.Native.Nat.{ℕ, zero, suc, _+_, _*_, _≤_, _<_}
+use Prim.Native.Nat.{ℕ, zero, suc, _+_, _*_, _≤_}
 use mathlib.Core.Path.{_≡_, refl}
-use mathlib.Core.Bool.{Bool, true, false, _&&_}
+use mathlib.Core.Bool.{true, false, _&&_}
 use mathlib.Core.List.{List}
 use mathlib.Core.Logic.{⊎-elim}
 use native.Mathlib.Omega.{arith}
 use lib.Dec.{leb, eqb}
-use lib.Ieee.{Float}
 use Rattle.little.specs.declared.found.Found.{Found}
 use Rattle.little.specs.declared.found.Found.the-variants.{At, Nothing}
 use Rattle.little.proofs.LawTest.{by-test}
@@ -19,12 +18,11 @@ use Rattle.desk.specs.Technique.{techniqueIndex}
 use Rattle.desk.specs.Reading.{goesWith, ratio, orNine, hoursOf, kwOf, kwhOf, hoursShare, energyShare, shareOf}
 use Rattle.desk.specs.Line.{lineOf}
 use Rattle.desk.specs.Account.{treated, byTechnique, treatmentOf, byTreatment, byRow, accountOf, lineOutcome}
-use Rattle.desk.specs.Table.{width, roomFor, beforeLines, orLine, byLines, orElseLines, answerOf}
+use Rattle.desk.specs.Table.{width, beforeLines, orLine, byLines, orElseLines, answerOf}
 use Rattle.desk.specs.declared.line.Line.{Line}
 use Rattle.desk.specs.declared.row.Row.{Row}
 use Rattle.desk.specs.declared.row.RowSearch.{RowSearch}
 use Rattle.desk.specs.declared.row.RowSearch.the-variants.{Hit, Miss}
-use Rattle.desk.specs.declared.reading.EnergyReading.{EnergyReading}
 use Rattle.desk.specs.declared.reading.Reading.{Reading}
 use Rattle.desk.specs.declared.reading.Reading.the-variants.{None, Hours, Energy, Throughout}
 use Rattle.desk.specs.declared.reading.Share.{Share}

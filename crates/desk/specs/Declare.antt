@@ -9,7 +9,7 @@ use Rattle.settle.specs.Shown.{Shown}
 use Rattle.settle.specs.Step.{shownTable}
 use Rattle.desk.specs.Sheet.{sheetHeader, lineCount}
 use Rattle.desk.specs.Account.{lineOutcome}
-use Rattle.desk.specs.Table.{width, tableOf, byLines, answerOf, cellsAfter}
+use Rattle.desk.specs.Table.{width, tableOf, answerOf, cellsAfter}
 use Rattle.desk.specs.declared.account.LineOutcome.{LineOutcome}
 use Rattle.desk.specs.declared.table.Outcome.{Outcome}
 use Rattle.desk.specs.declared.table.Outcome.the-variants.{Accepted, Refused}

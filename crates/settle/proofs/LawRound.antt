@@ -12,7 +12,7 @@ use lib.ListN.{length, set, length-set}
 use Rattle.settle.specs.Shown.{at, Whole, sum}
 use Rattle.settle.specs.Step.{whole?, twin, turn, shift, end, looseCell, loose, room, least, part}
 use Rattle.settle.specs.Moves.{Within}
-use Rattle.settle.specs.Inner.{Hop, Move, Fit, Apart, Trail, Even}
+use Rattle.settle.specs.Inner.{Hop, Move, Fit, Apart, Trail}
 use Rattle.settle.proofs.LawLine.{pick-yes, pick-no, by-dec}
 use Rattle.settle.proofs.LawNear.{within-refl, within-trans, hit-up, hit-down}
 use Rattle.settle.proofs.LawTurn.{tag, turn-length, turn-row, turn-col, turn-other, turn-within}
@@ -148,14 +148,6 @@ module _ (W K p m : ℕ) (hW : 0 < W) (hK : 0 < K) where
       omega (arith, cell-most W (at t u + p - m), cell-most W (at t (twin K x u) + m - p)))
       g')
       g
-
-  pub round-even : (n x : ℕ) (us t : List ℕ) → Fit W K p m t x us → end K x us ≡ x → Even W K n t → Even W K n (shift K p m x us t)
-  round-even n x us t h e g =
-      record {
-        size = shift-length x us t h ∙ g .size;
-        rows = λ i l. rw (shift-row x us t h i) (g .rows i l);
-        columns = λ j l. rw (round-col x us t h e n j (g .size) l) (g .columns j l);
-      }
 
 -- the least room fits, and hits
 move-least : (W K : ℕ) (up : Bool) (t : List ℕ) (x u d : ℕ) → Hop W K t x u → d ≤ room up W (at t u) → d ≤ room (not up) W (at t (twin K x u)) →

@@ -178,9 +178,6 @@ module _ (W K n mark : ℕ) (t : List ℕ) (h : Table W K n t) (i : ℕ) (e : i 
   pub loose-at : i < n * K → at t i % W ≢ 0
   loose-at l = rw e (first-loose W K n mark t h (rw e at l))
 
-  pub stays-at : n * K ≤ i → turnOnce W K n mark t ≡ t
-  stays-at l = turn-rests W K n mark t h (rw e at l)
-
   module _ (us : List ℕ) (p : us ≡ round W K n t i) (l : i < n * K) where
     pub round-at : Closed W K t us
     round-at = rw p (round-ok W K n mark t h i l (loose-at l))

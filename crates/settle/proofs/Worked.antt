@@ -2,8 +2,6 @@
 use mathlib.Core.Path.{_≡_, refl}
 use mathlib.Core.List.{[], _∷_}
 use native.Mathlib.Decide.{ℕ-discrete, decLt, decLe}
-use Rattle.settle.specs.Shown.{Whole}
-use Rattle.settle.specs.Table.{limit}
 use Rattle.settle.specs.Step.{seek, closes, walk, end, shift, least, rises, moved, turnOnce, mirrorAt, mirrors, step, after, units, shownTable}
 
 -- two lines of 150,000 units in grams: 1 and 2, under a total of 3
@@ -17,7 +15,3 @@ small : shownTable 10 4 3 (25 ∷ 13 ∷ 7 ∷ 5 ∷ 21 ∷ 4 ∷ 8 ∷ 9 ∷ 46
     ≡ 2 ∷ 1 ∷ 0 ∷ 1 ∷ 2 ∷ 0 ∷ 1 ∷ 1 ∷ 4 ∷ 1 ∷ 1 ∷ 2 ∷ []
 unfolding shownTable step turnOnce moved shift least rises walk closes seek end mirrors mirrorAt after units ℕ-discrete decLt decLe
 small = refl
-
--- the units of grams, kilograms and tonnes divide the limit
-pub units-whole : Whole 100000 limit × Whole 100000000 limit × Whole 100000000000 limit
-units-whole = (refl, refl, refl)

@@ -1,6 +1,5 @@
 -- `amounts::reading::thousandths` meets its contract. Assumes nothing.
 use mathlib.Core.Path.{refl, sym, ap, _∙_}
-use borrow.Author.Needs.{needs}
 use denote.Floats.{passes}
 use lib.Dec.{lit<, lit≤}
 use lib.Ieee.{binary64}

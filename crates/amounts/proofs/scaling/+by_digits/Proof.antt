@@ -1,5 +1,5 @@
 -- The proof of `amounts::scaling::by_digits`, which calls itself; x falls at each call. Assumes nothing.
-use Prim.Native.Nat.{ℕ, _*_, _%_, _/_, _^_, _≤_, _<_}
+use Prim.Native.Nat.{ℕ, _*_, _%_, _^_, _≤_, _<_}
 use mathlib.Core.Path.{_≡_}
 use Rattle.amounts.specs.Scaling.{Digit}
 use native.Mathlib.Omega.{arith}

@@ -1,5 +1,4 @@
 -- `amounts::scaling::per_mille` meets its contract. Assumes nothing.
-use native.Mathlib.Nat.{lt-of-le-of-lt}
 use native.Mathlib.Omega.{arith}
 use Rattle.amounts.proofs.LawScaling.{thousands, thousands-most}
 use Rattle.amounts.proofs.LawLine.{part-most}

@@ -1,5 +1,5 @@
 -- `desk::run::fill_runs` meets its contract. The invariant: the runs from k on are filled in, and `run` is the one at k. Assumes nothing.
-use Prim.Native.Nat.{ℕ, _-_, _≤_}
+use Prim.Native.Nat.{_-_, _≤_}
 use mathlib.Core.Path.{_≡_, _∙_}
 use native.Mathlib.Omega.{arith}
 use borrow.Author.Needs.{needs}

@@ -12,15 +12,14 @@ use lib.Arith.{digits-lt}
 use lib.Dec.{eqb, leb}
 use lib.ListN.{length}
 use Rattle.little.specs.Test.{all}
-use Rattle.little.proofs.LawTest.{all-at, all-of}
+use Rattle.little.proofs.LawTest.{and-left, and-right, all-at, all-of}
 use Rattle.settle.specs.Shown.{at, sum}
 use Rattle.settle.specs.Table.{limit, Shape, Good, cellFits, rowAddsUp, columnAddsUp, isSized, isGood}
 use Rattle.settle.specs.Inner.{Line}
 use Rattle.settle.proofs.LawLine.{by-dec}
 
 both : (a b : Bool) → (a && b) ≡ true → (a ≡ true) × (b ≡ true)
-both true b h = (refl, h)
-both false b h = (h, cc)
+both a b h = (and-left a b h, and-right a b h)
 
 -- a sum that is taken off x, cell by cell
 sum-most : (t : List ℕ) (b s j m : ℕ) → j ≤ m → sum t b s j ≤ sum t b s m

@@ -3,15 +3,14 @@ use Prim.Native.Nat.{ℕ, _+_, _≤_, _<_}
 use mathlib.Core.Bool.{Bool, true, false, _&&_}
 use mathlib.Core.Path.{_≡_, refl, _∙_}
 use mathlib.Core.List.{List}
-use mathlib.Core.Logic.{⊎-elim}
 use native.Mathlib.Nat.{mul-le-mul}
 use native.Mathlib.Omega.{arith}
 use lib.Dec.{leb, eqb}
 use borrow.Author.Tests.{leb-true}
-use Rattle.little.specs.declared.found.Found.{Found}
-use Rattle.little.specs.declared.found.Found.the-variants.{At, Nothing}
-use Rattle.little.proofs.LawTest.{by-test, and-left, and-right}
-use Rattle.little.proofs.LawFirst.{first-below}
+use Rattle.search.specs.declared.found.Found.{Found}
+use Rattle.search.specs.declared.found.Found.the-variants.{At, Nothing}
+use Rattle.search.proofs.LawTest.{clash, either-way, and-left, and-right}
+use Rattle.search.proofs.LawFirst.{first-below}
 use Rattle.amounts.specs.Line.{Admissible, amountsOf, workedOf, manualValue, Sound}
 use Rattle.amounts.specs.declared.line.Amounts.{Amounts}
 use Rattle.amounts.specs.declared.line.Worked.{Worked}
@@ -52,13 +51,13 @@ module _ (G e n d u : ℕ) (water : Bool) (w : Worked) (ok : Admissible e n d u)
   line-worked a q = let r = is-line in cc
 
   pub never-bad : w ≡ worked.Bad → ⊥
-  never-bad q = let r = is-line in let z : _≡_ {A = ℕ} 0 1 = cc in omega arith
+  never-bad q = let r = is-line in clash (cc)
 
 -- ---- the numbers are admissible
 
 module _ (u : ℕ) (reuse : u ≤ 1000) where
   treated-admissible : (k : ℕ) (share : Share) → k ≤ 1000 → ((n d : ℕ) → share ≡ Part n d → Fair n d) → (e n d : ℕ) → treated k share ≡ By e n d → Admissible e n d u
-  treated-admissible k (NoShare number) most fair e n d h = let z : _≡_ {A = ℕ} 0 1 = cc in absurd (omega arith)
+  treated-admissible k (NoShare number) most fair e n d h = clash (cc)
   treated-admissible k (Part a b) most fair e n d h =
       let p : k ≡ e = cc in
       let q : a ≡ n = cc in
@@ -68,28 +67,26 @@ module _ (u : ℕ) (reuse : u ≤ 1000) where
 
   module _ (t : List ℕ) (row : Row) (good : GoodRow t row) (reading : Reading) where
     technique-admissible : (f : Found) → ((j : ℕ) → f ≡ At j → j < row .techniques) → (e n d : ℕ) → byTechnique t row reading f ≡ By e n d → Admissible e n d u
-    technique-admissible Nothing below e n d h = let z : _≡_ {A = ℕ} 0 1 = cc in absurd (omega arith)
+    technique-admissible Nothing below e n d h = clash (cc)
     technique-admissible (At j) below e n d h =
-        ⊎-elim
-        (λ (g : goesWith reading (row .rule) ≡ true).
+        either-way (goesWith reading (row .rule))
+        (λ g.
         treated-admissible (techniqueEfficiency t (row .first + j)) (shareOf reading) (good .efficiency j (below j refl)) (share-fair reading) e n d (rw g at h))
-        (λ (g : goesWith reading (row .rule) ≡ false).
-        let r : NoTreatment 8 ≡ By e n d = rw g at h in let z : _≡_ {A = ℕ} 0 1 = cc in absurd (omega arith))
-        (by-test (goesWith reading (row .rule)))
+        (λ g.
+        let r : NoTreatment 8 ≡ By e n d = rw g at h in clash (cc))
 
     pub treatment-admissible : (technique e n d : ℕ) → treatmentOf t row technique reading ≡ By e n d → Admissible e n d u
     unfolding treatmentOf techniqueIndex
     treatment-admissible technique e n d h =
-        ⊎-elim
-        (λ (g : eqb technique 0 ≡ true).
+        either-way (eqb technique 0)
+        (λ g.
         let r : By 0 0 1 ≡ By e n d = rw g at h in
         let p : 0 ≡ e = cc in
         let q : 0 ≡ n = cc in
         let s : 1 ≡ d = cc in
         record { efficiency = omega arith; fraction = omega arith; divisor = omega arith; size = omega arith; reuse = reuse })
-        (λ (g : eqb technique 0 ≡ false).
+        (λ g.
         technique-admissible (techniqueIndex t (row .first) (row .techniques) technique) (λ j q. first-below (techniqueHas t (row .first) technique) (row .techniques) j q) e n d (rw g at h))
-        (by-test (eqb technique 0))
 
 -- ---- the amounts add up, and are at most 10^17
 
@@ -108,8 +105,9 @@ Balances (Refusal number) = Unit
 generated-small : (row : Row) (line : Line) → row .coefficient ≤ 100_000_000 → Moderate line → generatedOf row line ≤ lineMost
 unfolding generatedOf
 generated-small row line c m =
-    ⊎-elim (λ (e : eqb (row .basis) 1 ≡ true). rw e (mul-le-mul c (m .0))) (λ (e : eqb (row .basis) 1 ≡ false). rw e (mul-le-mul c (m .1)))
-    (by-test (eqb (row .basis) 1))
+    either-way (eqb (row .basis) 1)
+    (λ e. rw e (mul-le-mul c (m .0)))
+    (λ e. rw e (mul-le-mul c (m .1)))
 
 treatment-balances : (row : Row) (line : Line) (k : Treatment) → generatedOf row line ≤ lineMost → ((e n d : ℕ) → k ≡ By e n d → Admissible e n d (line .reuse)) → Balances (byTreatment row line k)
 treatment-balances row line (NoTreatment number) small ok = tt
@@ -127,14 +125,12 @@ pub account-balances : (b : List ℕ) (line : Line) → bookOk b ≡ true → Ba
 unfolding accountOf
 account-balances b line good =
     let t = leb (line .product) 1_000_000_000 && leb (line .material) 1_000_000_000 in
-    ⊎-elim
-    (λ (p : t ≡ true). ⊎-elim
-    (λ (q : leb (line .reuse) 1000 ≡ true). rw (p, q)
+    either-way t
+    (λ p. either-way (leb (line .reuse) 1000)
+    (λ q. rw (p, q)
     (row-balances b line (rowOf b (line .key)) good refl (both-moderate (line .product) (line .material) p) (leb-true (line .reuse) 1000 q)))
-    (λ (q : leb (line .reuse) 1000 ≡ false). rw (p, q) tt)
-    (by-test (leb (line .reuse) 1000)))
-    (λ (p : t ≡ false). rw p tt)
-    (by-test t)
+    (λ q. rw (p, q) tt))
+    (λ p. rw p tt)
 
 pub line-balances : (b s : List ℕ) → bookOk b ≡ true → (i : ℕ) → Balances (lineOutcome b s i)
 unfolding lineOutcome

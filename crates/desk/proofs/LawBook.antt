@@ -7,8 +7,8 @@ use native.Mathlib.Omega.{arith}
 use lib.Dec.{leb, eqb}
 use lib.ListN.{getD}
 use borrow.Author.Tests.{leb-true, eqb-true}
-use Rattle.little.specs.Test.{all}
-use Rattle.little.proofs.LawTest.{and-right, all-at, every-at}
+use Rattle.search.specs.Test.{all}
+use Rattle.search.proofs.LawTest.{and-right, all-at, every-at}
 use Rattle.desk.specs.House.{fileOk}
 use Rattle.desk.specs.Book.{bookHeader, bookFits, rowCount, rowStart, fieldsAt, techniqueBlock, techniqueCount, techniqueEfficiency, techniqueOk, techniquesOk, bookHeaderOk, fieldsOk, coefficientAt, rowOk, bookOk}
 

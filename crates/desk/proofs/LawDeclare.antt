@@ -1,4 +1,5 @@
 -- An exact table is one that can be settled: its sums are right and its cells are small. And what follows for the shown cells.
+use Rattle.search.proofs.LawTest.{clash}
 use Prim.Native.Nat.{ℕ, zero, suc, _+_, _*_, _-_, _/_, _%_, _≤_, _<_}
 use mathlib.Core.Path.{_≡_, refl, sym, ap, subst, _∙_}
 use mathlib.Core.Bool.{Bool, true, false, cond}
@@ -196,4 +197,4 @@ module _ (n code : ℕ) (l : ℕ → LineOutcome) (f : (k : ℕ) → Balances (l
 pub both-refused : (W n number line : ℕ) (l : ℕ → LineOutcome) (exact shown exact' shown' : List ℕ) → exact' ≡ cellsAfter (Refused number line) n l exact → shown' ≡ replicate (length shown) 0
     → BothAfter W n l exact shown (Refused number line) exact' shown'
 unfolding shownAfter
-both-refused W n number line l exact shown exact' shown' e s = record { table = e; shows = s; allowed = λ a. let z : _≡_ {A = ℕ} 0 1 = cc in absurd (omega arith) }
+both-refused W n number line l exact shown exact' shown' e s = record { table = e; shows = s; allowed = λ a. clash (cc) }

@@ -8,10 +8,10 @@ use native.Mathlib.Nat.{le-of-suc-le-suc, eq-or-lt-of-le}
 use native.Mathlib.Omega.{arith}
 use borrow.Author.Tests.{ltb-true, eqb-true, lt-ltb, le-ltb, eq-eqb, ne-eqb}
 use lib.Dec.{ltb, eqb}
-use Rattle.little.specs.First.{first}
-use Rattle.little.specs.declared.found.Found.the-variants.{At, Nothing}
-use Rattle.little.proofs.LawTest.{by-test, and-left, and-right, every-at}
-use Rattle.little.proofs.LawFirst.{first-start, first-here, first-rest}
+use Rattle.search.specs.First.{first}
+use Rattle.search.specs.declared.found.Found.the-variants.{At, Nothing}
+use Rattle.search.proofs.LawTest.{either-way, and-left, and-right, every-at}
+use Rattle.search.proofs.LawFirst.{first-start, first-here, first-rest}
 use Rattle.desk.specs.Key.{keyFields, before, keyLess, keySame}
 use Rattle.desk.specs.Book.{rowCount, rowStart, keyAt, rises, rowOk, bookOk}
 use Rattle.desk.specs.Row.{rowHas, rowBefore, Cut}
@@ -34,21 +34,18 @@ before-trans [] y z p q = cc
 before-trans (a ∷ x) [] z p q = cc
 before-trans (a ∷ x) (b ∷ y) [] p q = cc
 before-trans (a ∷ x) (b ∷ y) (c ∷ z) p q =
-    ⊎-elim
-    (λ (l : ltb a b ≡ true). ⊎-elim
-    (λ (m : ltb b c ≡ true). heads a c x z (omega (arith, ltb-true a b l, ltb-true b c m)))
-    (λ (m : ltb b c ≡ false). let t = tails b c y z m q in heads a c x z (omega (arith, ltb-true a b l, t .0)))
-    (by-test (ltb b c)))
-    (λ (l : ltb a b ≡ false).
+    either-way (ltb a b)
+    (λ l. either-way (ltb b c)
+    (λ m. heads a c x z (omega (arith, ltb-true a b l, ltb-true b c m)))
+    (λ m. let t = tails b c y z m q in heads a c x z (omega (arith, ltb-true a b l, t .0))))
+    (λ l.
     let s = tails a b x y l p in
-    ⊎-elim
-    (λ (m : ltb b c ≡ true). heads a c x z (omega (arith, ltb-true b c m, s .0)))
-    (λ (m : ltb b c ≡ false).
+    either-way (ltb b c)
+    (λ m. heads a c x z (omega (arith, ltb-true b c m, s .0)))
+    (λ m.
     let t = tails b c y z m q in
     let h : c ≤ a = omega (arith, s .0, t .0) in
-    rw (le-ltb a c h, eq-eqb a c (s .0 ∙ t .0), before-trans x y z (s .1) (t .1)))
-    (by-test (ltb b c)))
-    (by-test (ltb a b))
+    rw (le-ltb a c h, eq-eqb a c (s .0 ∙ t .0), before-trans x y z (s .1) (t .1))))
 
 before-irrefl : (x : List ℕ) → before x x ≡ false
 before-irrefl [] = refl
@@ -69,18 +66,16 @@ same-fields a k h =
 apart : (c a k : Key) → keyLess c a ≡ true → keyLess c k ≡ false → keySame a k ≡ false
 unfolding keyLess
 apart c a k p q =
-    ⊎-elim
-    (λ (s : keySame a k ≡ true). let z : true ≡ false = sym p ∙ ap (λ (l : List ℕ). before (keyFields c) l) (same-fields a k s) ∙ q in cc)
-    (λ (s : keySame a k ≡ false). s)
-    (by-test (keySame a k))
+    either-way (keySame a k)
+    (λ s. let z : true ≡ false = sym p ∙ ap (λ (l : List ℕ). before (keyFields c) l) (same-fields a k s) ∙ q in cc)
+    (λ s. s)
 
 less-not-same : (a k : Key) → keyLess a k ≡ true → keySame a k ≡ false
 unfolding keyLess
 less-not-same a k h =
-    ⊎-elim
-    (λ (s : keySame a k ≡ true). let z : true ≡ false = sym h ∙ ap (λ (l : List ℕ). before (keyFields a) l) (sym (same-fields a k s)) ∙ before-irrefl (keyFields a) in cc)
-    (λ (s : keySame a k ≡ false). s)
-    (by-test (keySame a k))
+    either-way (keySame a k)
+    (λ s. let z : true ≡ false = sym h ∙ ap (λ (l : List ℕ). before (keyFields a) l) (sym (same-fields a k s)) ∙ before-irrefl (keyFields a) in cc)
+    (λ s. s)
 
 -- a cut whose ends have met
 pub cut-met : (b : List ℕ) (k : Key) (low high : ℕ) → Cut b k low high → high ≤ low → Cut b k low low
@@ -130,9 +125,9 @@ module _ (b : List ℕ) (good : bookOk b ≡ true) where
       later : (i : ℕ) → (m ≡ i) ⊎ (m < i) → i < rowCount b → rowBefore b k i ≡ false
       later i (inl q) s = rw (← q) e
       later i (inr lt) s =
-          ⊎-elim (λ (t : keyLess (keyAt b (rowStart b i)) k ≡ true). let z : true ≡ false = sym (earlier i lt s t) ∙ e in cc)
-          (λ (t : keyLess (keyAt b (rowStart b i)) k ≡ false). t)
-          (by-test (keyLess (keyAt b (rowStart b i)) k))
+          either-way (keyLess (keyAt b (rowStart b i)) k)
+          (λ t. let z : true ≡ false = sym (earlier i lt s t) ∙ e in cc)
+          (λ t. t)
 
   -- ---- what the cut finds
 

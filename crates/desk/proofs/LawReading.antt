@@ -10,7 +10,7 @@ use lib.Dec.{leb, eqb}
 use borrow.Author.Tests.{leb-true}
 use denote.Enum.Declared.{tagOf}
 use types.Run.{OneOf}
-use Rattle.little.proofs.LawTest.{by-test}
+use Rattle.search.proofs.LawTest.{clash, either-way}
 use Rattle.amounts.specs.declared.reading.Taken.{Taken}
 use Rattle.amounts.specs.declared.reading.Taken.the-variants.{Is, Over, Bad}
 use Rattle.amounts.proofs.LawReading.{taken-most}
@@ -38,34 +38,32 @@ pub record Fair (n d : ℕ) : Type 0 where
   pub size : d ≤ 10_000_000_000_000_000
 
 positive : (d : ℕ) → eqb d 0 ≡ false → 0 < d
-positive zero h = let z : _≡_ {A = ℕ} 0 1 = cc in absurd (omega arith)
+positive zero h = clash (cc)
 positive (suc d) h = omega arith
 
 ratio-fair : (a b n d : ℕ) → b ≤ 10_000_000_000_000_000 → ratio a b ≡ Part n d → Fair n d
 unfolding ratio
 ratio-fair a b n d small h =
-    ⊎-elim
-    (λ (z : eqb b 0 ≡ true). let r : NoShare 10 ≡ Part n d = rw z at h in let q : _≡_ {A = ℕ} 0 1 = cc in absurd (omega arith))
-    (λ (z : eqb b 0 ≡ false). ⊎-elim
-    (λ (l : leb a b ≡ true).
+    either-way (eqb b 0)
+    (λ z. let r : NoShare 10 ≡ Part n d = rw z at h in let q : _≡_ {A = ℕ} 0 1 = cc in absurd (omega arith))
+    (λ z. either-way (leb a b)
+    (λ l.
     let r : Part a b ≡ Part n d = rw (z, l) at h in
     let p : a ≡ n = cc in
     let q : b ≡ d = cc in
     record { fraction = omega (arith, leb-true a b l); divisor = omega (arith, positive b z); size = omega arith })
-    (λ (l : leb a b ≡ false). let r : NoShare 11 ≡ Part n d = rw (z, l) at h in let q : _≡_ {A = ℕ} 0 1 = cc in absurd (omega arith))
-    (by-test (leb a b)))
-    (by-test (eqb b 0))
+    (λ l. let r : NoShare 11 ≡ Part n d = rw (z, l) at h in let q : _≡_ {A = ℕ} 0 1 = cc in absurd (omega arith)))
 
 -- where a share comes out, the reading was taken
 nine-part : {P : Type 0} (x : Taken) (f : ℕ → Share) (n d : ℕ) → orNine x f ≡ Part n d → ((t : ℕ) → x ≡ Is t → f t ≡ Part n d → P) → P
 unfolding orNine
 nine-part (Is t) f n d h go = go t refl h
-nine-part Over f n d h go = let z : _≡_ {A = ℕ} 0 1 = cc in absurd (omega arith)
-nine-part Bad f n d h go = let z : _≡_ {A = ℕ} 0 1 = cc in absurd (omega arith)
+nine-part Over f n d h go = clash (cc)
+nine-part Bad f n d h go = clash (cc)
 
 pub share-fair : (reading : Reading) (n d : ℕ) → shareOf reading ≡ Part n d → Fair n d
 unfolding shareOf hoursShare energyShare
-share-fair None n d h = let z : _≡_ {A = ℕ} 0 1 = cc in absurd (omega arith)
+share-fair None n d h = clash (cc)
 share-fair (Hours run production) n d h =
     nine-part (hoursOf run) _ n d h (λ a p g. nine-part (hoursOf production) _ n d g (λ b q r. ratio-fair a b n d (omega (arith, taken-most 1000 8784 b production q)) r))
 share-fair (Energy e) n d h =

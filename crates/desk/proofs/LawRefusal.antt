@@ -3,12 +3,11 @@ use Prim.Native.Nat.{ℕ, zero, suc, _+_, _*_, _≤_}
 use mathlib.Core.Path.{_≡_, refl}
 use mathlib.Core.Bool.{true, false, _&&_}
 use mathlib.Core.List.{List}
-use mathlib.Core.Logic.{⊎-elim}
 use native.Mathlib.Omega.{arith}
 use lib.Dec.{leb, eqb}
-use Rattle.little.specs.declared.found.Found.{Found}
-use Rattle.little.specs.declared.found.Found.the-variants.{At, Nothing}
-use Rattle.little.proofs.LawTest.{by-test}
+use Rattle.search.specs.declared.found.Found.{Found}
+use Rattle.search.specs.declared.found.Found.the-variants.{At, Nothing}
+use Rattle.search.proofs.LawTest.{either-way}
 use Rattle.amounts.specs.declared.reading.Taken.{Taken}
 use Rattle.amounts.specs.declared.reading.Taken.the-variants.{Is, Over, Bad}
 use Rattle.desk.specs.Book.{bookOk, techniqueBlock}
@@ -48,9 +47,9 @@ ShareRule (NoShare number) = Rule number
 ratio-rule : (n d : ℕ) → ShareRule (ratio n d)
 unfolding ratio
 ratio-rule n d =
-    ⊎-elim (λ (z : eqb d 0 ≡ true). rw z (omega arith, omega arith))
-    (λ (z : eqb d 0 ≡ false). ⊎-elim (λ (p : leb n d ≡ true). rw (z, p) tt) (λ (p : leb n d ≡ false). rw (z, p) (omega arith, omega arith)) (by-test (leb n d)))
-    (by-test (eqb d 0))
+    either-way (eqb d 0)
+    (λ z. rw z (omega arith, omega arith))
+    (λ z. either-way (leb n d) (λ p. rw (z, p) tt) (λ p. rw (z, p) (omega arith, omega arith)))
 
 nine-rule : (x : Taken) (f : ℕ → Share) → ((t : ℕ) → ShareRule (f t)) → ShareRule (orNine x f)
 unfolding orNine
@@ -77,16 +76,16 @@ treated-rule e (NoShare number) h = h
 technique-rule : (t : List ℕ) (row : Row) (reading : Reading) (f : Found) → TreatmentRule (byTechnique t row reading f)
 technique-rule t row reading Nothing = (omega arith, omega arith)
 technique-rule t row reading (At j) =
-    ⊎-elim (λ (g : goesWith reading (row .rule) ≡ true). rw g (treated-rule _ (shareOf reading) (share-rule reading)))
-    (λ (g : goesWith reading (row .rule) ≡ false). rw g (omega arith, omega arith))
-    (by-test (goesWith reading (row .rule)))
+    either-way (goesWith reading (row .rule))
+    (λ g. rw g (treated-rule _ (shareOf reading) (share-rule reading)))
+    (λ g. rw g (omega arith, omega arith))
 
 treatment-rule : (t : List ℕ) (row : Row) (technique : ℕ) (reading : Reading) → TreatmentRule (treatmentOf t row technique reading)
 unfolding treatmentOf
 treatment-rule t row technique reading =
-    ⊎-elim (λ (z : eqb technique 0 ≡ true). rw z tt)
-    (λ (z : eqb technique 0 ≡ false). rw z (technique-rule t row reading (techniqueIndex t (row .first) (row .techniques) technique)))
-    (by-test (eqb technique 0))
+    either-way (eqb technique 0)
+    (λ z. rw z tt)
+    (λ z. rw z (technique-rule t row reading (techniqueIndex t (row .first) (row .techniques) technique)))
 
 abbrev LineRule : LineOutcome → Type 0
 LineRule (Given a) = Unit
@@ -106,13 +105,11 @@ unfolding lineOutcome accountOf
 line-rule b s i =
     let line = lineOf s i in
     let moderate = leb (line .product) 1000000000 && leb (line .material) 1000000000 in
-    ⊎-elim
-    (λ (p : moderate ≡ true). ⊎-elim
-    (λ (q : leb (line .reuse) 1000 ≡ true). rw (p, q) (row-rule (techniqueBlock b) line (rowOf b (line .key))))
-    (λ (q : leb (line .reuse) 1000 ≡ false). rw (p, q) (omega arith, omega arith))
-    (by-test (leb (line .reuse) 1000)))
-    (λ (p : moderate ≡ false). rw p (omega arith, omega arith))
-    (by-test moderate)
+    either-way moderate
+    (λ p. either-way (leb (line .reuse) 1000)
+    (λ q. rw (p, q) (row-rule (techniqueBlock b) line (rowOf b (line .key))))
+    (λ q. rw (p, q) (omega arith, omega arith)))
+    (λ p. rw p (omega arith, omega arith))
 
 -- ---- the answer
 
@@ -142,16 +139,13 @@ whole-file n number a b = record { some = a; last = b; within = omega arith }
 before-known : (b s : List ℕ) (n room : ℕ) → OutcomeKnown n (beforeLines b s room)
 unfolding beforeLines
 before-known b s n room =
-    ⊎-elim
-    (λ (p : bookOk b ≡ true). ⊎-elim
-    (λ (q : sheetOk s ≡ true). ⊎-elim
-    (λ (r : leb (width * (lineCount s + 1)) room ≡ true). rw (p, q, r) tt)
-    (λ (r : leb (width * (lineCount s + 1)) room ≡ false). rw (p, q, r) (whole-file n 3 (omega arith) (omega arith)))
-    (by-test (leb (width * (lineCount s + 1)) room)))
-    (λ (q : sheetOk s ≡ false). rw (p, q) (whole-file n 2 (omega arith) (omega arith)))
-    (by-test (sheetOk s)))
-    (λ (p : bookOk b ≡ false). rw p (whole-file n 1 (omega arith) (omega arith)))
-    (by-test (bookOk b))
+    either-way (bookOk b)
+    (λ p. either-way (sheetOk s)
+    (λ q. either-way (leb (width * (lineCount s + 1)) room)
+    (λ r. rw (p, q, r) tt)
+    (λ r. rw (p, q, r) (whole-file n 3 (omega arith) (omega arith))))
+    (λ q. rw (p, q) (whole-file n 2 (omega arith) (omega arith))))
+    (λ p. rw p (whole-file n 1 (omega arith) (omega arith)))
 
 fewer : (n : ℕ) (o : Outcome) → n ≤ 128 → OutcomeKnown n o → OutcomeKnown 128 o
 fewer n Accepted few h = tt

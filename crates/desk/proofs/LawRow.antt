@@ -1,13 +1,14 @@
 -- What the row search finds in a good book.
+use Rattle.search.proofs.LawTest.{clash}
 use Prim.Native.Nat.{ℕ, _+_, _≤_, _<_}
 use mathlib.Core.Bool.{true}
 use mathlib.Core.Path.{_≡_, refl}
 use mathlib.Core.List.{List}
 use native.Mathlib.Omega.{arith}
-use Rattle.little.specs.First.{first}
-use Rattle.little.specs.declared.found.Found.{Found}
-use Rattle.little.specs.declared.found.Found.the-variants.{At, Nothing}
-use Rattle.little.proofs.LawFirst.{first-below, or-else-below}
+use Rattle.search.specs.First.{first}
+use Rattle.search.specs.declared.found.Found.{Found}
+use Rattle.search.specs.declared.found.Found.the-variants.{At, Nothing}
+use Rattle.search.proofs.LawFirst.{first-below, or-else-below}
 use Rattle.desk.specs.Key.{allScales}
 use Rattle.desk.specs.Book.{rowCount, techniqueBlock, techniqueEfficiency, bookOk}
 use Rattle.desk.specs.Row.{rowHas, rowIndex, rowAt, rowFrom, rowOf}
@@ -35,7 +36,7 @@ good-at b good i l = record { coefficient = row-coefficient b good i l; efficien
 
 good-from : (b : List ℕ) → bookOk b ≡ true → (f : Found) → ((i : ℕ) → f ≡ At i → i < rowCount b) → (row : Row) → rowFrom b f ≡ Hit row → GoodRow (techniqueBlock b) row
 good-from b good (At i) below row h = let e : rowAt b i ≡ row = cc in rw e at (good-at b good i (below i refl))
-good-from b good Nothing below row h = let z : _≡_ {A = ℕ} 0 1 = cc in absurd (omega arith)
+good-from b good Nothing below row h = clash (cc)
 
 pub hit-good : (b : List ℕ) (k : Key) (row : Row) → bookOk b ≡ true → rowOf b k ≡ Hit row → GoodRow (techniqueBlock b) row
 unfolding rowOf

@@ -11,8 +11,8 @@ use borrow.Author.Tests.{le-leb, leb-true, eq-eqb, ne-eqb}
 use lib.Dec.{leb, ltb, eqb}
 use lib.ListN.{getD, length, set}
 use lib.Seq.{getD-set-same, getD-set-other}
-use Rattle.little.specs.Test.{all, every}
-use Rattle.little.proofs.LawTest.{by-test, and-left, and-right, all-at, all-of}
+use Rattle.search.specs.Test.{all, every}
+use Rattle.search.proofs.LawTest.{either-way, and-left, and-right, all-at, all-of}
 use Rattle.desk.specs.Book.{techniqueCode, techniqueOk, techniquesOk}
 use Rattle.desk.specs.Run.{lawful, runBefore, runOf, Runs, listOk}
 
@@ -105,28 +105,24 @@ module _ (t : List ℕ) where
   run-most (suc n) k =
       let next = runOf t n (k + 1) in
       let m : next ≤ n = run-most n (k + 1) in
-      ⊎-elim
-      (λ (h : lawful t k ≡ true). ⊎-elim
-      (λ (r : ltb (techniqueCode t k) (techniqueCode t (k + 1)) ≡ true). omega (arith, goes-on k next h r))
-      (λ (r : ltb (techniqueCode t k) (techniqueCode t (k + 1)) ≡ false). omega (arith, ends k next h r))
-      (by-test (ltb (techniqueCode t k) (techniqueCode t (k + 1)))))
-      (λ (h : lawful t k ≡ false). omega (arith, unlawful k next h))
-      (by-test (lawful t k))
+      either-way (lawful t k)
+      (λ h. either-way (ltb (techniqueCode t k) (techniqueCode t (k + 1)))
+      (λ r. omega (arith, goes-on k next h r))
+      (λ r. omega (arith, ends k next h r)))
+      (λ h. omega (arith, unlawful k next h))
 
   run-good : (n f c : ℕ) → c ≤ runOf t n f → Good t f c
   unfolding runOf
   run-good zero f c h = none-good t f c (omega arith)
   run-good (suc n) f c h =
       let next = runOf t n (f + 1) in
-      ⊎-elim
-      (λ (w : lawful t f ≡ true). ⊎-elim
-      (λ (r : ltb (techniqueCode t f) (techniqueCode t (f + 1)) ≡ true). longer f c w (λ l. r) (run-good n (f + 1) (c - 1) (omega (arith, goes-on f next w r))))
-      (λ (r : ltb (techniqueCode t f) (techniqueCode t (f + 1)) ≡ false).
+      either-way (lawful t f)
+      (λ w. either-way (ltb (techniqueCode t f) (techniqueCode t (f + 1)))
+      (λ r. longer f c w (λ l. r) (run-good n (f + 1) (c - 1) (omega (arith, goes-on f next w r))))
+      (λ r.
       let one : c ≤ 1 = omega (arith, ends f next w r) in
-      longer f c w (λ l. absurd (omega arith)) (none-good t (f + 1) (c - 1) (omega arith)))
-      (by-test (ltb (techniqueCode t f) (techniqueCode t (f + 1)))))
-      (λ (w : lawful t f ≡ false). none-good t f c (omega (arith, unlawful f next w)))
-      (by-test (lawful t f))
+      longer f c w (λ l. absurd (omega arith)) (none-good t (f + 1) (c - 1) (omega arith))))
+      (λ w. none-good t f c (omega (arith, unlawful f next w)))
 
   good-run : (n f c : ℕ) → c ≤ n → Good t f c → c ≤ runOf t n f
   unfolding runOf
@@ -137,10 +133,9 @@ module _ (t : List ℕ) where
       let e : f + 0 ≡ f = omega arith in
       let d : f + suc 0 ≡ f + 1 = omega arith in
       let w : lawful t f ≡ true = rw e at (G .each 0 (omega arith)) in
-      ⊎-elim
-      (λ (r : ltb (techniqueCode t f) (techniqueCode t (f + 1)) ≡ true). let m : c ≤ next = good-run n (f + 1) c (omega arith) (shorter f c G) in omega (arith, goes-on f next w r))
-      (λ (r : ltb (techniqueCode t f) (techniqueCode t (f + 1)) ≡ false). omega (arith, ends f next w r, only c (λ k. sym (rw (e, d) at (G .rise 0 k)) ∙ r)))
-      (by-test (ltb (techniqueCode t f) (techniqueCode t (f + 1))))
+      either-way (ltb (techniqueCode t f) (techniqueCode t (f + 1)))
+      (λ r. let m : c ≤ next = good-run n (f + 1) c (omega arith) (shorter f c G) in omega (arith, goes-on f next w r))
+      (λ r. omega (arith, ends f next w r, only c (λ k. sym (rw (e, d) at (G .rise 0 k)) ∙ r)))
     where
       only : (c : ℕ) → (suc 0 < suc c → true ≡ false) → c ≡ 0
       only zero k = refl
@@ -150,25 +145,22 @@ module _ (t : List ℕ) where
 
   within-run : (n f c : ℕ) → c ≤ n → leb c (runOf t n f) ≡ all c (techniqueOk t f)
   within-run n f c l =
-      ⊎-elim
-      (λ (h : leb c (runOf t n f) ≡ true). h ∙ sym (good-ok t f c (run-good n f c (leb-true c (runOf t n f) h))))
-      (λ (h : leb c (runOf t n f) ≡ false). ⊎-elim
-      (λ (a : all c (techniqueOk t f) ≡ true). let z : true ≡ false = sym (le-leb c (runOf t n f) (good-run n f c l (ok-good t f c a))) ∙ h in cc)
-      (λ (a : all c (techniqueOk t f) ≡ false). h ∙ sym a)
-      (by-test (all c (techniqueOk t f))))
-      (by-test (leb c (runOf t n f)))
+      either-way (leb c (runOf t n f))
+      (λ h. h ∙ sym (good-ok t f c (run-good n f c (leb-true c (runOf t n f) h))))
+      (λ h. either-way (all c (techniqueOk t f))
+      (λ a. let z : true ≡ false = sym (le-leb c (runOf t n f) (good-run n f c l (ok-good t f c a))) ∙ h in cc)
+      (λ a. h ∙ sym a))
 
   list-is : (size first count : ℕ) (runs : List ℕ) → Runs t size runs → listOk runs size first count ≡ techniquesOk t size first count
   unfolding listOk techniquesOk
   list-is size first zero runs R = rw (eq-eqb 0 0 refl, all-of (techniqueOk t first) 0 (λ i l. absurd (omega arith)))
   list-is size first (suc c) runs R =
       rw (ne-eqb (suc c) 0 (λ q. omega arith))
-      (⊎-elim
-      (λ (h : leb (first + suc c) size ≡ true).
+      (either-way (leb (first + suc c) size)
+      (λ h.
       let l : first + suc c ≤ size = leb-true (first + suc c) size h in
       rw (h, R .at first (omega arith)) (within-run (size - first) first (suc c) (omega arith)))
-      (λ (h : leb (first + suc c) size ≡ false). rw h)
-      (by-test (leb (first + suc c) size)))
+      (λ h. rw h))
 
   pub listed : (size n first count : ℕ) (runs : List ℕ) (r : Bool) → n ≡ size → Runs t size runs → r ≡ listOk runs n first count → r ≡ techniquesOk t size first count
   listed size n first count runs r e R h = h ∙ ap (λ (m : ℕ). listOk runs m first count) e ∙ list-is size first count runs R

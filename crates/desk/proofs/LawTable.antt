@@ -11,9 +11,9 @@ use lib.Dec.{leb}
 use lib.ListN.{length, drop, set, replicate, length-append}
 use borrow.Rule.Slice.PartMut.{putMid}
 use borrow.Author.Tests.{leb-true}
-use Rattle.little.specs.Test.{all}
+use Rattle.search.specs.Test.{all}
 use Rattle.little.proofs.LawPart.{put-part}
-use Rattle.little.proofs.LawTest.{by-test, and-left, and-right, every-at}
+use Rattle.search.proofs.LawTest.{clash, either-way, and-left, and-right, every-at}
 use Rattle.amounts.specs.declared.line.Amounts.{Amounts}
 use Rattle.desk.specs.Book.{bookOk}
 use Rattle.desk.specs.House.{fileOk}
@@ -116,13 +116,10 @@ lines-few s h =
 pub ready : (b s : List ℕ) (room : ℕ) → beforeLines b s room ≡ Accepted → Ready b s room
 unfolding beforeLines
 ready b s room h =
-    ⊎-elim
-    (λ (p : bookOk b ≡ true). ⊎-elim
-    (λ (q : sheetOk s ≡ true). ⊎-elim
-    (λ (r : leb (width * (lineCount s + 1)) room ≡ true). record { book = p; sheet = q; fits = leb-true (width * (lineCount s + 1)) room r })
-    (λ (r : leb (width * (lineCount s + 1)) room ≡ false). let z : _≡_ {A = ℕ} 0 1 = cc in absurd (omega arith))
-    (by-test (leb (width * (lineCount s + 1)) room)))
-    (λ (q : sheetOk s ≡ false). let z : _≡_ {A = ℕ} 0 1 = cc in absurd (omega arith))
-    (by-test (sheetOk s)))
-    (λ (p : bookOk b ≡ false). let z : _≡_ {A = ℕ} 0 1 = cc in absurd (omega arith))
-    (by-test (bookOk b))
+    either-way (bookOk b)
+    (λ p. either-way (sheetOk s)
+    (λ q. either-way (leb (width * (lineCount s + 1)) room)
+    (λ r. record { book = p; sheet = q; fits = leb-true (width * (lineCount s + 1)) room r })
+    (λ r. clash (cc)))
+    (λ q. clash (cc)))
+    (λ p. clash (cc))

@@ -3,8 +3,8 @@ use Prim.Native.Nat.{ℕ, _+_, _*_, _≤_}
 use mathlib.Core.Bool.{_&&_, cond}
 use mathlib.Core.List.{List}
 use lib.Dec.{leb, eqb}
-use Rattle.little.specs.declared.found.Found.{Found}
-use Rattle.little.specs.declared.found.Found.the-variants.{At, Nothing}
+use Rattle.search.specs.declared.found.Found.{Found}
+use Rattle.search.specs.declared.found.Found.the-variants.{At, Nothing}
 use Rattle.amounts.specs.Line.{amountsOf}
 use Rattle.desk.specs.Book.{techniqueBlock, techniqueEfficiency}
 use Rattle.desk.specs.Row.{rowOf}

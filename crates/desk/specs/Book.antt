@@ -5,7 +5,7 @@ use mathlib.Core.List.{List, [], _∷_}
 use lib.Dec.{leb, ltb, eqb}
 use Rattle.little.specs.Read.{byteAt, u16At, u32At}
 use Rattle.little.specs.Part.{partOf}
-use Rattle.little.specs.Test.{all, every}
+use Rattle.search.specs.Test.{all, every}
 use Rattle.desk.specs.House.{wholeLength, fileOk}
 use Rattle.desk.specs.Key.{keyFrom, keyLess}
 use Rattle.desk.specs.declared.key.Key.{Key}

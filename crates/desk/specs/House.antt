@@ -5,7 +5,7 @@ use mathlib.Core.List.{List, [], _∷_}
 use lib.ListN.{length}
 use lib.Dec.{leb, eqb}
 use Rattle.little.specs.Read.{u32At}
-use Rattle.little.specs.Test.{every}
+use Rattle.search.specs.Test.{every}
 
 abbrev pub wholeLength : List ℕ → ℕ
 wholeLength file = u32At file 0

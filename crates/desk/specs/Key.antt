@@ -4,7 +4,7 @@ use mathlib.Core.Bool.{Bool, false, _&&_, _||_}
 use mathlib.Core.List.{List, [], _∷_}
 use lib.Dec.{ltb, eqb}
 use Rattle.little.specs.Read.{u16At}
-use Rattle.little.specs.Test.{every}
+use Rattle.search.specs.Test.{every}
 use Rattle.desk.specs.declared.key.Key.{Key}
 
 -- Rows and lines start below this: an offset u32, and at most as many of them as a u16 counts.

@@ -3,9 +3,9 @@ use Prim.Native.Nat.{ℕ, _<_, _≤_}
 use mathlib.Core.Path.{_≡_}
 use mathlib.Core.Bool.{Bool, true, false}
 use mathlib.Core.List.{List}
-use Rattle.little.specs.First.{first, orElse}
-use Rattle.little.specs.declared.found.Found.{Found}
-use Rattle.little.specs.declared.found.Found.the-variants.{At, Nothing}
+use Rattle.search.specs.First.{first, orElse}
+use Rattle.search.specs.declared.found.Found.{Found}
+use Rattle.search.specs.declared.found.Found.the-variants.{At, Nothing}
 use Rattle.desk.specs.Key.{keyLess, keySame, allScales}
 use Rattle.desk.specs.Book.{rowCount, rowStart, keyAt, fieldsAt, coefficientAt}
 use Rattle.desk.specs.declared.key.Key.{Key}

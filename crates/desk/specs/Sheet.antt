@@ -4,7 +4,7 @@ use mathlib.Core.Bool.{Bool, _&&_, not}
 use mathlib.Core.List.{List, [], _∷_}
 use lib.Dec.{leb, eqb}
 use Rattle.little.specs.Read.{byteAt, u16At, u32At, u64At}
-use Rattle.little.specs.Test.{all, every}
+use Rattle.search.specs.Test.{all, every}
 use Rattle.desk.specs.House.{wholeLength, fileOk}
 
 -- ---- the header, 16 bytes

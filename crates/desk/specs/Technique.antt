@@ -3,8 +3,8 @@ use Prim.Native.Nat.{ℕ, _+_}
 use mathlib.Core.Bool.{Bool}
 use mathlib.Core.List.{List}
 use lib.Dec.{eqb}
-use Rattle.little.specs.First.{first}
-use Rattle.little.specs.declared.found.Found.{Found}
+use Rattle.search.specs.First.{first}
+use Rattle.search.specs.declared.found.Found.{Found}
 use Rattle.desk.specs.Book.{techniqueCode}
 
 -- technique j of the list that begins at `from` has this code

@@ -22,7 +22,7 @@ use super::technique::technique_index;
 use amounts::line::Amounts;
 use amounts::line::Worked;
 use amounts::line::work;
-use little::found::Found;
+use search::found::Found;
 
 // The efficiency with k as n over d, or the number of the refusal.
 pub enum Treatment {

@@ -3,7 +3,7 @@ ghost use mathlib.Core.Path.{_≡_};
 ghost use mathlib.Core.Bool.{true};
 ghost use Prim.Native.Nat.{_<_, _^_};
 ghost use Rattle.little.specs.Read.{Reads};
-ghost use Rattle.little.specs.Test.{all};
+ghost use Rattle.search.specs.Test.{all};
 ghost use Rattle.desk.specs.Key.{farthest};
 ghost use Rattle.desk.specs.Book.{bookHeaderOk, techniqueBlock, rowStart, rowCount, keyAt, fieldsOk, coefficientAt, rises, rowOk, bookOk, techniqueCount};
 ghost use Rattle.desk.specs.Run.{Runs};

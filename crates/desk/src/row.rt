@@ -2,7 +2,7 @@
 ghost use mathlib.Core.Path.{_≡_};
 ghost use mathlib.Core.Bool.{true};
 ghost use Prim.Native.Nat.{_<_};
-ghost use Rattle.little.specs.First.{Finds, first};
+ghost use Rattle.search.specs.First.{Finds, first};
 ghost use Rattle.desk.specs.Book.{rowCount, rowStart, fieldsOk, bookOk};
 ghost use Rattle.desk.specs.Row.{rowHas, rowBefore, Cut, rowIndex, rowAt, ReadsRow, rowOf, FindsRow};
 use super::book::coefficient_at;
@@ -12,9 +12,9 @@ use super::key::Key;
 use super::key::all_scales;
 use super::key::key_less;
 use super::key::key_same;
-use little::found::Found;
 use little::read::byte_at;
 use little::read::u16_at;
+use search::found::Found;
 
 // What a line is accounted for by: units per kilogram, and the list of techniques in the block.
 pub struct Row {

@@ -2,7 +2,7 @@
 ghost use mathlib.Core.Path.{_≡_};
 ghost use Prim.Native.Nat.{_<_};
 ghost use Rattle.little.specs.Read.{Reads};
-ghost use Rattle.little.specs.Test.{all};
+ghost use Rattle.search.specs.Test.{all};
 ghost use Rattle.desk.specs.Key.{farthest};
 ghost use Rattle.desk.specs.Sheet.{sheetHeaderOk, lineStart, lineOk, lineCount, sheetOk};
 use super::house::file_ok;

@@ -1,12 +1,12 @@
 // The technique search. It is handed the technique block alone.
 ghost use mathlib.Core.Path.{_≡_};
 ghost use Prim.Native.Nat.{_<_, _+_};
-ghost use Rattle.little.specs.First.{Finds};
+ghost use Rattle.search.specs.First.{Finds};
 ghost use Rattle.little.specs.Read.{Reads};
 ghost use Rattle.desk.specs.Book.{techniqueEfficiency};
 ghost use Rattle.desk.specs.Technique.{techniqueIndex};
-use little::found::Found;
 use little::read::u16_at;
+use search::found::Found;
 
 // The place, in a row's list of `count` techniques that begins at `from`, of the one with this code.
 pub(crate) fn technique_index(t: &[u8], from: usize, count: usize, code: usize) -> Found

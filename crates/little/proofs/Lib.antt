@@ -1,5 +1,3 @@
 pub mod LawRead
 pub mod LawPart
-pub mod LawTest
-pub mod LawFirst
 pub mod LawNumber

@@ -1,4 +1,2 @@
 pub mod Read
 pub mod Part
-pub mod Test
-pub mod First

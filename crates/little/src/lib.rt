@@ -1,5 +1,4 @@
-// Total reads of little-endian numbers, parts of lent slices, and what a search answers. Knows no format.
+// Total reads of little-endian numbers, parts of lent slices, and cells made zero. Knows no format.
 pub mod cells;
-pub mod found;
 pub mod part;
 pub mod read;

@@ -1,4 +1,5 @@
 -- A step moves the cells of one closed round, two in each of its rows and columns, all by the same amount; and the lifted total goes up.
+use Rattle.search.proofs.LawTest.{clash}
 use mathlib.Core.Path.{_≡_, refl, sym, ap, _∙_}
 use mathlib.Core.Logic.{_≢_, _⊎_, inl, inr, ⊎-elim}
 use mathlib.Core.List.{List, [], _∷_, _++_}
@@ -133,12 +134,12 @@ mark-down W K mark us t hW hK g h =
     h
   where
     went : (up : Bool) (d y : ℕ) → up ≡ false → y + part (not up) d ≡ at t mark + part up d → y + d ≡ at t mark
-    went true d y e q = let z : _≡_ {A = ℕ} 0 1 = cc in absurd (omega arith)
+    went true d y e q = clash (cc)
     went false d y e q = omega arith
 
     went' : (up : Bool) (d y : ℕ) → up ≡ true → y + part up d ≡ at t mark + part (not up) d → y + d ≡ at t mark
     went' true d y e q = omega arith
-    went' false d y e q = let z : _≡_ {A = ℕ} 0 1 = cc in absurd (omega arith)
+    went' false d y e q = clash (cc)
 
 is-same : (a b : ℕ) → a ≡ b → same a b ≡ 1
 is-same a b e = pick-yes {A = ℕ} (ℕ-discrete a b) 1 0 e

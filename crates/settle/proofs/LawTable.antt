@@ -11,8 +11,8 @@ use borrow.Author.Tests.{leb-true, eqb-true, le-leb, eq-eqb, ne-eqb}
 use lib.Arith.{digits-lt}
 use lib.Dec.{eqb, leb}
 use lib.ListN.{length}
-use Rattle.little.specs.Test.{all}
-use Rattle.little.proofs.LawTest.{and-left, and-right, all-at, all-of}
+use Rattle.search.specs.Test.{all}
+use Rattle.search.proofs.LawTest.{and-left, and-right, all-at, all-of}
 use Rattle.settle.specs.Shown.{at, sum}
 use Rattle.settle.specs.Table.{limit, Shape, Good, cellFits, rowAddsUp, columnAddsUp, isSized, isGood}
 use Rattle.settle.specs.Inner.{Line}

@@ -5,7 +5,7 @@ use mathlib.Core.List.{List}
 use Prim.Native.Nat.{ℕ, _+_, _-_, _*_, _%_, _≤_, _<_}
 use lib.Dec.{eqb, leb}
 use lib.ListN.{length}
-use Rattle.little.specs.Test.{all}
+use Rattle.search.specs.Test.{all}
 use Rattle.settle.specs.Shown.{at, Whole, sum, Sums}
 
 -- no cell is above it, and it is a whole number of units

@@ -1,6 +1,6 @@
 // Whether a table can be settled.
 ghost use Prim.Native.Nat.{_+_, _-_, _*_, _<_, _≤_};
-ghost use Rattle.little.specs.Test.{all};
+ghost use Rattle.search.specs.Test.{all};
 ghost use Rattle.settle.specs.Inner.{Line};
 ghost use Rattle.settle.specs.Shown.{sum};
 ghost use Rattle.settle.specs.Table.{cellFits, columnAddsUp, isGood, isSized, rowAddsUp};

@@ -1,6 +1,6 @@
 -- `desk::book::fields_ok` meets its contract. Assumes nothing.
 use borrow.Author.Needs.{needs}
-use Rattle.little.specs.Test.{every}
+use Rattle.search.specs.Test.{every}
 use Rattle.desk.specs.Book.{fieldsOk}
 use Rattle.desk.proofs.book.fields_ok.Statement.{statement}
 use Rattle.desk.proofs.book.fields_ok.Tie as tie

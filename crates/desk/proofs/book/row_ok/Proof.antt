@@ -2,7 +2,7 @@
 use mathlib.Core.Path.{sym, _∙_}
 use native.Mathlib.Omega.{arith}
 use borrow.Author.Needs.{needs}
-use Rattle.little.specs.Test.{every}
+use Rattle.search.specs.Test.{every}
 use Rattle.desk.specs.Book.{rowOk}
 use Rattle.desk.proofs.LawRun.{listed}
 use Rattle.desk.proofs.book.row_ok.Statement.{statement}

@@ -1,6 +1,6 @@
 -- `desk::house::file_ok` meets its contract. Assumes nothing.
 use borrow.Author.Needs.{needs}
-use Rattle.little.specs.Test.{every}
+use Rattle.search.specs.Test.{every}
 use Rattle.desk.specs.House.{fileOk}
 use Rattle.desk.proofs.house.file_ok.Statement.{statement}
 use Rattle.desk.proofs.house.file_ok.Tie as tie

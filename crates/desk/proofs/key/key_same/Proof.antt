@@ -1,5 +1,5 @@
 -- `desk::key::key_same` meets its contract. Assumes nothing.
-use Rattle.little.specs.Test.{every}
+use Rattle.search.specs.Test.{every}
 use Rattle.desk.specs.Key.{keySame}
 use Rattle.desk.proofs.key.key_same.Statement.{statement}
 use Rattle.desk.proofs.key.key_same.Tie as tie

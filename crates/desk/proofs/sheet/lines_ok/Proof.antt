@@ -2,8 +2,8 @@
 use Prim.Native.Nat.{_≤_, _-_}
 use mathlib.Core.Path.{_≡_}
 use borrow.Author.Needs.{needs}
-use Rattle.little.proofs.LawTest.{all-start, all-step, all-done}
-use Rattle.little.specs.Test.{all}
+use Rattle.search.proofs.LawTest.{all-start, all-step, all-done}
+use Rattle.search.specs.Test.{all}
 use Rattle.desk.specs.Sheet.{lineOk}
 use Rattle.desk.proofs.sheet.lines_ok.Statement.{statement}
 use Rattle.desk.proofs.sheet.lines_ok.Tie as tie

@@ -1,6 +1,6 @@
 -- `desk::sheet::sheet_header_ok` meets its contract. Assumes nothing.
 use borrow.Author.Needs.{needs}
-use Rattle.little.specs.Test.{every}
+use Rattle.search.specs.Test.{every}
 use Rattle.desk.specs.Sheet.{sheetHeaderOk}
 use Rattle.desk.proofs.sheet.sheet_header_ok.Statement.{statement}
 use Rattle.desk.proofs.sheet.sheet_header_ok.Tie as tie

@@ -4,9 +4,9 @@ use mathlib.Core.Path.{sym, _∙_, _≡_}
 use native.Mathlib.Omega.{arith}
 use borrow.Author.Tests.{eq-eqb, ne-eqb}
 use borrow.Author.Needs.{needs}
-use Rattle.little.specs.First.{first}
-use Rattle.little.proofs.LawFirst.{first-start, first-more, first-here, first-done}
-use Rattle.little.specs.declared.found.Found.the-variants.{Nothing}
+use Rattle.search.specs.First.{first}
+use Rattle.search.proofs.LawFirst.{first-start, first-more, first-here, first-done}
+use Rattle.search.specs.declared.found.Found.the-variants.{Nothing}
 use Rattle.desk.specs.Technique.{techniqueHas, techniqueIndex}
 use Rattle.desk.proofs.technique.technique_index.Statement.{statement}
 use Rattle.desk.proofs.technique.technique_index.Tie as tie

@@ -3,8 +3,8 @@ use Prim.Native.Nat.{_-_, _≤_}
 use native.Mathlib.Omega.{arith}
 use lib.ListN.{length}
 use Rattle.settle.specs.Table.{cellFits}
-use Rattle.little.specs.Test.{all}
-use Rattle.little.proofs.LawTest.{all-start, all-step, all-done}
+use Rattle.search.specs.Test.{all}
+use Rattle.search.proofs.LawTest.{all-start, all-step, all-done}
 use borrow.Author.Needs.{needs}
 use Rattle.settle.proofs.table.cells_fit.Statement.{statement}
 use Rattle.settle.proofs.table.cells_fit.Tie as tie

@@ -3,8 +3,8 @@ use Prim.Native.Nat.{_-_, _*_, _≤_, _<_}
 use native.Mathlib.Omega.{arith}
 use lib.Arith.{digits-lt}
 use Rattle.settle.specs.Table.{columnAddsUp}
-use Rattle.little.specs.Test.{all}
-use Rattle.little.proofs.LawTest.{all-start, all-step, all-done}
+use Rattle.search.specs.Test.{all}
+use Rattle.search.proofs.LawTest.{all-start, all-step, all-done}
 use Rattle.settle.proofs.LawTable.{column-rest, less-rows}
 use borrow.Author.Needs.{needs}
 use Rattle.settle.proofs.table.columns_add_up.Statement.{statement}

@@ -3,8 +3,8 @@ use Prim.Native.Nat.{_-_, _≤_}
 use native.Mathlib.Nat.{mul-le-mul, mul-le-mul-right}
 use native.Mathlib.Omega.{arith}
 use Rattle.settle.specs.Table.{rowAddsUp}
-use Rattle.little.specs.Test.{all}
-use Rattle.little.proofs.LawTest.{all-start, all-step, all-done}
+use Rattle.search.specs.Test.{all}
+use Rattle.search.proofs.LawTest.{all-start, all-step, all-done}
 use Rattle.settle.proofs.LawTable.{row-rest}
 use borrow.Author.Needs.{needs}
 use Rattle.settle.proofs.table.rows_add_up.Statement.{statement}

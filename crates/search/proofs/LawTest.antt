@@ -3,16 +3,21 @@ use Prim.Native.Nat.{ℕ, zero, suc, _+_, _≤_, _<_}
 use mathlib.Core.Bool.{Bool, true, false, _&&_}
 use mathlib.Core.Path.{_≡_, refl, ap, _∙_}
 use mathlib.Core.List.{List, [], _∷_}
-use mathlib.Core.Logic.{⊎-elim, _⊎_, inl, inr}
+use mathlib.Core.Logic.{⊎-elim}
 use native.Mathlib.Numerals.{add-one}
 use native.Mathlib.Nat.{le-antisymm, not-suc-le-zero, le-of-suc-le-suc, eq-or-lt-of-le}
 use native.Mathlib.Omega.{arith}
 use lib.ListN.{getD}
-use Rattle.little.specs.Test.{all, every, everyFrom}
+use Rattle.search.specs.Test.{all, every, everyFrom}
 
-pub by-test : (t : Bool) → (t ≡ true) ⊎ (t ≡ false)
-by-test true = inl refl
-by-test false = inr refl
+-- by cases on a test
+pub either-way : {P : Type 0} (t : Bool) → (t ≡ true → P) → (t ≡ false → P) → P
+either-way true a b = a refl
+either-way false a b = b refl
+
+-- two cases of an enum that would be equal: `clash (cc)`
+pub clash : {P : Type 0} → _≡_ {A = ℕ} 0 1 → P
+clash e = absurd (omega arith)
 
 pub and-left : (a b : Bool) → (a && b) ≡ true → a ≡ true
 and-left true b h = refl

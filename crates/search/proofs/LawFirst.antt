@@ -6,9 +6,10 @@ use mathlib.Core.Logic.{⊎-elim}
 use native.Mathlib.Numerals.{add-one}
 use native.Mathlib.Nat.{le-antisymm, not-suc-le-zero, le-of-suc-le-suc, eq-or-lt-of-le}
 use native.Mathlib.Omega.{arith}
-use Rattle.little.specs.First.{orAt, first, orElse}
-use Rattle.little.specs.declared.found.Found.{Found}
-use Rattle.little.specs.declared.found.Found.the-variants.{At, Nothing}
+use Rattle.search.proofs.LawTest.{clash}
+use Rattle.search.specs.First.{orAt, first, orElse}
+use Rattle.search.specs.declared.found.Found.{Found}
+use Rattle.search.specs.declared.found.Found.the-variants.{At, Nothing}
 
 -- a loop `if test(i) { return At(i) }`, i from 0 up to n, with the invariant `(i ≤ n) × (first i p ≡ Nothing)`
 pub first-start : (p : ℕ → Bool) → first 0 p ≡ Nothing
@@ -41,11 +42,11 @@ first-rest p i (suc n) h l f =
 or-at-below : (f : Found) (hit : Bool) (n i : ℕ) → ((j : ℕ) → f ≡ At j → j < n) → orAt f hit n ≡ At i → i < suc n
 or-at-below (At k) hit n i g h = let l : i < n = g i h in omega arith
 or-at-below Nothing true n i g h = let e : n ≡ i = cc in omega arith
-or-at-below Nothing false n i g h = let z : _≡_ {A = ℕ} 0 1 = cc in absurd (omega arith)
+or-at-below Nothing false n i g h = clash (cc)
 
 pub first-below : (p : ℕ → Bool) (n i : ℕ) → first n p ≡ At i → i < n
 unfolding first
-first-below p zero i h = let z : _≡_ {A = ℕ} 0 1 = cc in absurd (omega arith)
+first-below p zero i h = clash (cc)
 first-below p (suc n) i h = or-at-below (first n p) (p n) n i (λ j q. first-below p n j q) h
 
 pub or-else-below : (f g : Found) (n i : ℕ) → ((j : ℕ) → f ≡ At j → j < n) → ((j : ℕ) → g ≡ At j → j < n) → orElse f g ≡ At i → i < n

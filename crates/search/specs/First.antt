@@ -2,8 +2,8 @@
 use Prim.Native.Nat.{ℕ, zero, suc, _<_}
 use mathlib.Core.Path.{_≡_}
 use mathlib.Core.Bool.{Bool, true, false}
-use Rattle.little.specs.declared.found.Found.{Found}
-use Rattle.little.specs.declared.found.Found.the-variants.{At, Nothing}
+use Rattle.search.specs.declared.found.Found.{Found}
+use Rattle.search.specs.declared.found.Found.the-variants.{At, Nothing}
 
 -- f, or n where f is nothing and the test holds at n
 abbrev pub orAt : Found → Bool → ℕ → Found

@@ -1,0 +1,2 @@
+pub mod LawTest
+pub mod LawFirst

@@ -1,12 +1,15 @@
-// The desk as a program: it reads `book.bin` and `sheet.bin` in the folder it is started in, and prints the exact table, the shown unit and the shown
-// table, or the refusal.
+// The desk as a program: it reads `book.bin` and `sheet.bin` in the folder it is started in, and prints the exact table, the shown unit
+// and the shown table, or the refusal.
 ghost use Prim.Native.Nat.{_<_};
+use desk::answer::Outcome;
+use desk::cells::COLUMNS;
 use desk::declare::declare;
 use desk::declare::unit_of;
-use desk::table::Outcome;
+use desk::house::MOST_BYTES;
+use desk::sheet::line_count;
+use desk::table::MOST_CELLS;
 use libc::STDOUT_FILENO;
 use little::part::part;
-use little::read::u16_at;
 
 fn say(words: &[u8]) {
     io::write_all(STDOUT_FILENO, words);
@@ -36,7 +39,7 @@ fn amounts(cells: &[u64], from: usize)
     requires { ⌜ from < 1000000 ⌝ }
 {
     let mut i = 0;
-    while i < 4 {
+    while i < COLUMNS {
         number(cell(cells, from + i));
         i += 1;
     }
@@ -50,15 +53,15 @@ fn table(name: &[u8], cells: &[u64], lines: usize)
     while i < lines {
         say(name);
         number((i + 1) as u64);
-        amounts(cells, 4 * i);
+        amounts(cells, COLUMNS * i);
         i += 1;
     }
     say(name);
     say(b" total");
-    amounts(cells, 4 * lines);
+    amounts(cells, COLUMNS * lines);
 }
 
-fn refused(rule: usize, line: usize) {
+fn refused(rule: u16, line: u16) {
     say(b"refused");
     number(rule as u64);
     say(b" line");
@@ -67,12 +70,12 @@ fn refused(rule: usize, line: usize) {
 }
 
 fn report(book: &[u8], sheet: &[u8]) {
-    let mut exact = [0u64; 516];
-    let mut shown = [0u64; 516];
+    let mut exact = [0u64; MOST_CELLS];
+    let mut shown = [0u64; MOST_CELLS];
     match declare(book, sheet, &mut exact, &mut shown) {
-        Outcome::Refused(rule, line) => refused(rule, line),
+        Outcome::Refused(fault, line) => refused(fault.number(), line),
         Outcome::Accepted => {
-            let lines = u16_at(sheet, 4);
+            let lines = line_count(sheet);
             table(b"exact", &exact, lines);
             say(b"unit");
             number(unit_of(sheet));
@@ -84,8 +87,8 @@ fn report(book: &[u8], sheet: &[u8]) {
 
 // One byte more than the limit is read, so that a longer file is refused and not cut.
 fn main() {
-    let mut book = [0u8; 65537];
-    let mut sheet = [0u8; 65537];
+    let mut book = [0u8; MOST_BYTES + 1];
+    let mut sheet = [0u8; MOST_BYTES + 1];
     let book_bytes = load(b"book.bin", &mut book);
     let sheet_bytes = load(b"sheet.bin", &mut sheet);
     report(part(&book, 0, book_bytes), part(&sheet, 0, sheet_bytes));

@@ -3,19 +3,21 @@ use Prim.Native.Nat.{ℕ, _+_, _*_, min}
 use mathlib.Core.Path.{_≡_}
 use mathlib.Core.List.{List}
 use lib.ListN.{length}
-use Rattle.desk.specs.Sheet.{sheetHeader, lineCount}
-use Rattle.desk.specs.Account.{lineOutcome}
+use Rattle.desk.specs.Lent.{Lent}
+use Rattle.desk.specs.Answer.{answerNumber, answerLine}
 use Rattle.desk.specs.Table.{answerOf}
-use Rattle.desk.specs.Declare.{unitOf, BothAfter}
-use Rattle.desk.specs.declared.table.Outcome.{Outcome}
-use Rattle.desk.specs.declared.table.Outcome.the-variants.{Accepted, Refused}
+use Rattle.desk.specs.Declare.{BothAfter}
+use Rattle.desk.specs.declared.answer.Outcome.{Outcome}
 
--- 0 for accepted, number × 65,536 + line for a refusal
+-- number × 65,536 + line, both 0 for accepted
 abbrev pub codeOf : Outcome → ℕ
-codeOf Accepted = 0
-codeOf (Refused number line) = number * 65536 + line
+codeOf r = answerNumber r * 65536 + answerLine r
+
+-- the desk's answer, for two lent results
+abbrev pub answered : (f : Lent) (exact shown : List ℕ) → Outcome
+answered f exact shown = answerOf f (min (length exact) (length shown))
 
 -- the answer r is the code of the desk's, and both results hold what the desk leaves in them
-pub record Accounts (book sheet exact shown : List ℕ) (r : ℕ) (exact' shown' : List ℕ) : Type 0 where
-  pub answer : r ≡ codeOf (answerOf book sheet (min (length exact) (length shown)))
-  pub cells : BothAfter (unitOf (sheetHeader sheet .shownUnit)) (lineCount sheet) (lineOutcome book sheet) exact shown (answerOf book sheet (min (length exact) (length shown))) exact' shown'
+pub record Accounts (f : Lent) (exact shown : List ℕ) (r : ℕ) (exact' shown' : List ℕ) : Type 0 where
+  pub answer : r ≡ codeOf (answered f exact shown)
+  pub cells : BothAfter f exact shown (answered f exact shown) exact' shown'

@@ -1,27 +1,33 @@
--- What a line of a good book answers: numbers that the amounts are worked from, and amounts that add up and are small.
+-- What a line of a good book answers: numbers that the amounts are worked from, and a row that adds up and is small.
 use Prim.Native.Nat.{ℕ, _+_, _≤_, _<_}
-use mathlib.Core.Bool.{Bool, true, false, _&&_}
+use mathlib.Core.Bool.{Bool, true, false}
 use mathlib.Core.Path.{_≡_, refl, _∙_}
 use mathlib.Core.List.{List}
 use native.Mathlib.Nat.{mul-le-mul}
 use native.Mathlib.Omega.{arith}
-use lib.Dec.{leb, eqb}
-use borrow.Author.Tests.{leb-true}
+use lib.Dec.{ltb, eqb}
+use borrow.Author.Tests.{ltb-false}
 use Rattle.search.specs.declared.found.Found.{Found}
 use Rattle.search.specs.declared.found.Found.the-variants.{At, Nothing}
-use Rattle.search.proofs.LawTest.{clash, either-way, and-left, and-right}
+use Rattle.search.proofs.LawTest.{clash, either-way, or-left, or-right}
 use Rattle.search.proofs.LawFirst.{first-below}
-use Rattle.amounts.specs.Line.{Admissible, amountsOf, workedOf, manualValue, Sound}
+use Rattle.amounts.specs.Line.{wholeShare, Admissible, amountsOf, workedOf, manualValue, Sound}
 use Rattle.amounts.specs.declared.line.Amounts.{Amounts}
 use Rattle.amounts.specs.declared.line.Worked.{Worked}
 use Rattle.amounts.proofs.LawLine.{worked-line, sound}
 use Rattle.amounts.specs.declared.line.Worked.the-variants as worked
-use Rattle.desk.specs.Book.{techniqueBlock, techniqueEfficiency, bookOk}
+use Rattle.settle.specs.Shown.{sum}
+use Rattle.desk.specs.Book.{techniqueBlock, techniqueEfficiency, bookOk, mostCoefficient}
 use Rattle.desk.specs.Row.{rowOf}
 use Rattle.desk.specs.Technique.{techniqueHas, techniqueIndex}
 use Rattle.desk.specs.Reading.{goesWith, shareOf}
-use Rattle.desk.specs.Line.{lineOf}
-use Rattle.desk.specs.Account.{treated, byTechnique, treatmentOf, generatedOf, byTreatment, byRow, Moderate, accountOf, lineOutcome}
+use Rattle.desk.specs.Line.{mostKilograms, lineOf}
+use Rattle.desk.specs.Lent.{Lent}
+use Rattle.desk.specs.Cells.{width, cellsOf, rowFrom}
+use Rattle.desk.specs.Account.{treated, byTechnique, treatmentOf, generatedOf, inWater, byTreatment, byRow}
+use Rattle.desk.specs.Account.{excessive, accountOf, lineOutcome}
+use Rattle.desk.specs.Inner.{Moderate}
+use Rattle.desk.specs.declared.answer.LineFault.the-variants.{WrongKind}
 use Rattle.desk.specs.declared.line.Line.{Line}
 use Rattle.desk.specs.declared.row.Row.{Row}
 use Rattle.desk.specs.declared.row.RowSearch.{RowSearch}
@@ -33,13 +39,16 @@ use Rattle.desk.specs.declared.account.Treatment.{Treatment}
 use Rattle.desk.specs.declared.account.Treatment.the-variants.{By, NoTreatment}
 use Rattle.desk.specs.declared.account.LineOutcome.{LineOutcome}
 use Rattle.desk.specs.declared.account.LineOutcome.the-variants.{Given, Refusal}
+use Rattle.desk.proofs.LawColumns.{Balanced}
 use Rattle.desk.proofs.LawReading.{Fair, share-fair}
 use Rattle.desk.proofs.LawRow.{GoodRow, hit-good}
 
--- both limits of rule 4
-pub both-moderate : (a b : ℕ) → (leb a 1_000_000_000 && leb b 1_000_000_000) ≡ true → (a ≤ 1_000_000_000) × (b ≤ 1_000_000_000)
-both-moderate a b h =
-    (leb-true a 1_000_000_000 (and-left (leb a 1_000_000_000) (leb b 1_000_000_000) h), leb-true b 1_000_000_000 (and-right (leb a 1_000_000_000) (leb b 1_000_000_000) h))
+-- what rule 4 leaves
+pub moderate : (line : Line) → excessive line ≡ false → Moderate line
+moderate line h =
+    let p = ltb mostKilograms (line .product) in
+    let m = ltb mostKilograms (line .material) in
+    record { product = ltb-false mostKilograms (line .product) (or-left p m h); material = ltb-false mostKilograms (line .material) (or-right p m h) }
 
 -- ---- where the numbers are admissible `work` answers a line
 
@@ -55,9 +64,10 @@ module _ (G e n d u : ℕ) (water : Bool) (w : Worked) (ok : Admissible e n d u)
 
 -- ---- the numbers are admissible
 
-module _ (u : ℕ) (reuse : u ≤ 1000) where
-  treated-admissible : (k : ℕ) (share : Share) → k ≤ 1000 → ((n d : ℕ) → share ≡ Part n d → Fair n d) → (e n d : ℕ) → treated k share ≡ By e n d → Admissible e n d u
-  treated-admissible k (NoShare number) most fair e n d h = clash (cc)
+module _ (u : ℕ) (reuse : u ≤ wholeShare) where
+  treated-admissible : (k : ℕ) (share : Share) → k ≤ wholeShare → ((n d : ℕ) → share ≡ Part n d → Fair n d)
+      → (e n d : ℕ) → treated k share ≡ By e n d → Admissible e n d u
+  treated-admissible k (NoShare fault) most fair e n d h = clash (cc)
   treated-admissible k (Part a b) most fair e n d h =
       let p : k ≡ e = cc in
       let q : a ≡ n = cc in
@@ -66,14 +76,13 @@ module _ (u : ℕ) (reuse : u ≤ 1000) where
       record { efficiency = omega arith; fraction = omega arith; divisor = omega arith; size = omega arith; reuse = reuse }
 
   module _ (t : List ℕ) (row : Row) (good : GoodRow t row) (reading : Reading) where
-    technique-admissible : (f : Found) → ((j : ℕ) → f ≡ At j → j < row .techniques) → (e n d : ℕ) → byTechnique t row reading f ≡ By e n d → Admissible e n d u
+    technique-admissible : (f : Found) → ((j : ℕ) → f ≡ At j → j < row .techniques)
+        → (e n d : ℕ) → byTechnique t row reading f ≡ By e n d → Admissible e n d u
     technique-admissible Nothing below e n d h = clash (cc)
     technique-admissible (At j) below e n d h =
         either-way (goesWith reading (row .rule))
-        (λ g.
-        treated-admissible (techniqueEfficiency t (row .first + j)) (shareOf reading) (good .efficiency j (below j refl)) (share-fair reading) e n d (rw g at h))
-        (λ g.
-        let r : NoTreatment 8 ≡ By e n d = rw g at h in clash (cc))
+        (λ g. treated-admissible _ (shareOf reading) (good .efficiency j (below j refl)) (share-fair reading) e n d (rw g at h))
+        (λ g. let r : NoTreatment WrongKind ≡ By e n d = rw g at h in clash (cc))
 
     pub treatment-admissible : (technique e n d : ℕ) → treatmentOf t row technique reading ≡ By e n d → Admissible e n d u
     unfolding treatmentOf techniqueIndex
@@ -85,63 +94,65 @@ module _ (u : ℕ) (reuse : u ≤ 1000) where
         let q : 0 ≡ n = cc in
         let s : 1 ≡ d = cc in
         record { efficiency = omega arith; fraction = omega arith; divisor = omega arith; size = omega arith; reuse = reuse })
-        (λ g.
-        technique-admissible (techniqueIndex t (row .first) (row .techniques) technique) (λ j q. first-below (techniqueHas t (row .first) technique) (row .techniques) j q) e n d (rw g at h))
+        (λ g. technique-admissible (techniqueIndex t (row .first) (row .techniques) technique)
+        (λ j q. first-below (techniqueHas t (row .first) technique) (row .techniques) j q) e n d (rw g at h))
 
--- ---- the amounts add up, and are at most 10^17
+-- ---- the row adds up, and is at most 10^17
 
-pub record Balanced (most : ℕ) (a : Amounts) : Type 0 where
-  pub sum : a .generated ≡ a .removed + a .reused + a .discharged
-  pub small : a .generated ≤ most
-
+-- what a coefficient and an activity make, at most
 abbrev pub lineMost : ℕ
 lineMost = 100_000_000_000_000_000
 
--- what is written where a line gives amounts
+-- what is written where a line gives a row
 abbrev pub Balances : LineOutcome → Type 0
-Balances (Given a) = Balanced lineMost a
-Balances (Refusal number) = Unit
+Balances (Given row) = Balanced width lineMost (cellsOf row)
+Balances (Refusal fault) = Unit
 
-generated-small : (row : Row) (line : Line) → row .coefficient ≤ 100_000_000 → Moderate line → generatedOf row line ≤ lineMost
+amounts-balanced : (most : ℕ) (a : Amounts) → a .generated ≡ a .removed + a .reused + a .discharged → a .generated ≤ most
+    → Balanced width most (cellsOf (rowFrom a))
+unfolding sum
+amounts-balanced most a adds small = record { adds = omega arith; small = small }
+
+generated-small : (row : Row) (line : Line) → row .coefficient ≤ mostCoefficient → Moderate line → generatedOf row line ≤ lineMost
 unfolding generatedOf
 generated-small row line c m =
-    either-way (eqb (row .basis) 1)
-    (λ e. rw e (mul-le-mul c (m .0)))
-    (λ e. rw e (mul-le-mul c (m .1)))
+    either-way (eqb (row .basis) 1) (λ e. rw e (mul-le-mul c (m .product))) (λ e. rw e (mul-le-mul c (m .material)))
 
-treatment-balances : (row : Row) (line : Line) (k : Treatment) → generatedOf row line ≤ lineMost → ((e n d : ℕ) → k ≡ By e n d → Admissible e n d (line .reuse)) → Balances (byTreatment row line k)
-treatment-balances row line (NoTreatment number) small ok = tt
+treatment-balances : (row : Row) (line : Line) (k : Treatment) → generatedOf row line ≤ lineMost
+    → ((e n d : ℕ) → k ≡ By e n d → Admissible e n d (line .reuse)) → Balances (byTreatment row line k)
+treatment-balances row line (NoTreatment fault) small ok = tt
 treatment-balances row line (By e n d) small ok =
-    record { sum = sound (generatedOf row line) e n d (line .reuse) (eqb (line .key .medium) 1) (ok e n d refl) .sum; small = small }
+    let G = generatedOf row line in
+    amounts-balanced lineMost (amountsOf G e n d (line .reuse) (inWater line)) (sound G e n d (line .reuse) (inWater line) (ok e n d refl) .sum) small
 
-row-balances : (b : List ℕ) (line : Line) (f : RowSearch) → bookOk b ≡ true → rowOf b (line .key) ≡ f → Moderate line → line .reuse ≤ 1000 → Balances (byRow (techniqueBlock b) line f)
+row-balances : (b : List ℕ) (line : Line) (f : RowSearch) → bookOk b ≡ true → rowOf b (line .key) ≡ f → Moderate line → line .reuse ≤ wholeShare
+    → Balances (byRow (techniqueBlock b) line f)
 row-balances b line Miss good e moderate reuse = tt
 row-balances b line (Hit row) good e moderate reuse =
     let g = hit-good b (line .key) row good e in
-    treatment-balances row line (treatmentOf (techniqueBlock b) row (line .technique) (line .reading)) (generated-small row line (g .coefficient) moderate)
-    (treatment-admissible (line .reuse) reuse (techniqueBlock b) row g (line .reading) (line .technique))
+    let t = techniqueBlock b in
+    treatment-balances row line (treatmentOf t row (line .technique) (line .reading)) (generated-small row line (g .coefficient) moderate)
+    (treatment-admissible (line .reuse) reuse t row g (line .reading) (line .technique))
 
 pub account-balances : (b : List ℕ) (line : Line) → bookOk b ≡ true → Balances (accountOf b line)
 unfolding accountOf
 account-balances b line good =
-    let t = leb (line .product) 1_000_000_000 && leb (line .material) 1_000_000_000 in
-    either-way t
-    (λ p. either-way (leb (line .reuse) 1000)
-    (λ q. rw (p, q)
-    (row-balances b line (rowOf b (line .key)) good refl (both-moderate (line .product) (line .material) p) (leb-true (line .reuse) 1000 q)))
-    (λ q. rw (p, q) tt))
+    either-way (excessive line)
     (λ p. rw p tt)
+    (λ p. either-way (ltb wholeShare (line .reuse))
+    (λ q. rw (p, q) tt)
+    (λ q. rw (p, q) (row-balances b line (rowOf b (line .key)) good refl (moderate line p) (ltb-false wholeShare (line .reuse) q))))
 
-pub line-balances : (b s : List ℕ) → bookOk b ≡ true → (i : ℕ) → Balances (lineOutcome b s i)
+pub line-balances : (f : Lent) → bookOk (f .book) ≡ true → (i : ℕ) → Balances (lineOutcome f i)
 unfolding lineOutcome
-line-balances b s good i = account-balances b (lineOf s i) good
+line-balances f good i = account-balances (f .book) (lineOf (f .sheet) i) good
 
--- ---- demand 2 of a line: its amounts add up, and D is not below the manual's exact value, worked from the line's own numbers, and less than two units above it
+-- ---- demand 2 of a line: D is not below the manual's exact value, worked from the line's own numbers, and less than two units above it
 
-pub line-sound : (b : List ℕ) (line : Line) (row : Row) (e n d : ℕ) → bookOk b ≡ true → line .reuse ≤ 1000 → rowOf b (line .key) ≡ Hit row
-    → treatmentOf (techniqueBlock b) row (line .technique) (line .reading) ≡ By e n d
-    → Sound (manualValue (generatedOf row line) e n d (line .reuse) (eqb (line .key .medium) 1)) (amountsOf (generatedOf row line) e n d (line .reuse) (eqb (line .key .medium) 1))
+pub line-sound : (b : List ℕ) (line : Line) (row : Row) (e n d : ℕ) → bookOk b ≡ true → line .reuse ≤ wholeShare → rowOf b (line .key) ≡ Hit row
+    → treatmentOf (techniqueBlock b) row (line .technique) (line .reading) ≡ By e n d → let G = generatedOf row line in
+    Sound (manualValue G e n d (line .reuse) (inWater line)) (amountsOf G e n d (line .reuse) (inWater line))
 line-sound b line row e n d good reuse hit by =
     let g = hit-good b (line .key) row good hit in
-    sound (generatedOf row line) e n d (line .reuse) (eqb (line .key .medium) 1)
+    sound (generatedOf row line) e n d (line .reuse) (inWater line)
     (treatment-admissible (line .reuse) reuse (techniqueBlock b) row g (line .reading) (line .technique) e n d by)

@@ -7,10 +7,11 @@ use native.Mathlib.Omega.{arith}
 use lib.Dec.{leb, eqb}
 use lib.ListN.{getD}
 use borrow.Author.Tests.{leb-true, eqb-true}
+use Rattle.amounts.specs.Line.{wholeShare}
 use Rattle.search.specs.Test.{all}
 use Rattle.search.proofs.LawTest.{and-right, all-at, every-at}
 use Rattle.desk.specs.House.{fileOk}
-use Rattle.desk.specs.Book.{bookHeader, bookFits, rowCount, rowStart, fieldsAt, techniqueBlock, techniqueCount, techniqueEfficiency, techniqueOk, techniquesOk, bookHeaderOk, fieldsOk, coefficientAt, rowOk, bookOk}
+use Rattle.desk.specs.Book.{bookHeader, bookFits, rowCount, rowStart, fieldsAt, techniqueBlock, techniqueCount, techniqueEfficiency, techniqueOk, techniquesOk, bookHeaderOk, fieldsOk, coefficientAt, rowOk, rowsOk, bookOk, mostTechniques, mostCoefficient}
 
 -- the powers of ten that a coefficient is made with
 abbrev pub tens : List ℕ
@@ -45,30 +46,34 @@ fields-power b at h =
       within = places-most (fieldsAt b at .unit) (fieldsAt b at .places) some (leb-true (fieldsAt b at .places) 5 (every-at _ h 7)) (every-at _ h 8);
     }
 
-pub techniques-few : (b : List ℕ) → bookHeaderOk b ≡ true → techniqueCount b ≤ 4096
+pub techniques-few : (b : List ℕ) → bookHeaderOk b ≡ true → techniqueCount b ≤ mostTechniques
 unfolding bookHeaderOk
-techniques-few b h = leb-true (techniqueCount b) 4096 (every-at _ (and-right (fileOk b 16) (bookFits (bookHeader b)) h) 1)
+techniques-few b h =
+    let header = bookHeader b in
+    leb-true (techniqueCount b) mostTechniques (every-at _ (and-right (fileOk b (header .origin) (header .size)) (bookFits header) h) 1)
 
 -- ---- rows of a good book
 
 module _ (b : List ℕ) (good : bookOk b ≡ true) where
   pub row-good : (i : ℕ) → i < rowCount b → rowOk b (techniqueBlock b) i ≡ true
   unfolding bookOk
-  row-good i l = all-at (rowOk b (techniqueBlock b)) (rowCount b) i (and-right (bookHeaderOk b) (all (rowCount b) (rowOk b (techniqueBlock b))) good) l
+  row-good i l = all-at (rowOk b (techniqueBlock b)) (rowCount b) i (and-right (bookHeaderOk b) (rowsOk b) good) l
 
   pub row-fields : (i : ℕ) → i < rowCount b → fieldsOk b (rowStart b i) ≡ true
   unfolding rowOk
   row-fields i l = every-at _ (row-good i l) 0
 
-  pub row-coefficient : (i : ℕ) → i < rowCount b → coefficientAt b (rowStart b i) ≤ 100_000_000
+  pub row-coefficient : (i : ℕ) → i < rowCount b → coefficientAt b (rowStart b i) ≤ mostCoefficient
   unfolding rowOk
-  row-coefficient i l = leb-true (coefficientAt b (rowStart b i)) 100_000_000 (every-at _ (row-good i l) 1)
+  row-coefficient i l = leb-true (coefficientAt b (rowStart b i)) mostCoefficient (every-at _ (row-good i l) 1)
 
-  pub row-efficiency : (i j : ℕ) → i < rowCount b → j < fieldsAt b (rowStart b i) .techniques → techniqueEfficiency (techniqueBlock b) (fieldsAt b (rowStart b i) .first + j) ≤ 1000
+  pub row-efficiency : (i j : ℕ) → i < rowCount b → let row = fieldsAt b (rowStart b i) in
+      j < row .techniques → techniqueEfficiency (techniqueBlock b) (row .first + j) ≤ wholeShare
   unfolding rowOk techniquesOk techniqueOk
   row-efficiency i j l m =
-      let at = rowStart b i in
+      let row = fieldsAt b (rowStart b i) in
       let t = techniqueBlock b in
-      let listed = every-at _ (row-good i l) 2 in
-      let each = and-right (eqb (fieldsAt b at .techniques) 0 || leb (fieldsAt b at .first + fieldsAt b at .techniques) (techniqueCount b)) (all (fieldsAt b at .techniques) (techniqueOk t (fieldsAt b at .first))) listed in
-      leb-true (techniqueEfficiency t (fieldsAt b at .first + j)) 1000 (every-at _ (all-at (techniqueOk t (fieldsAt b at .first)) (fieldsAt b at .techniques) j each m) 1)
+      let inside = eqb (row .techniques) 0 || leb (row .first + row .techniques) (techniqueCount b) in
+      let each = and-right inside (all (row .techniques) (techniqueOk t (row .first))) (every-at _ (row-good i l) 2) in
+      leb-true (techniqueEfficiency t (row .first + j)) wholeShare
+      (every-at _ (all-at (techniqueOk t (row .first)) (row .techniques) j each m) 1)

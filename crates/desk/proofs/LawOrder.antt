@@ -14,7 +14,8 @@ use Rattle.search.proofs.LawTest.{either-way, and-left, and-right, every-at}
 use Rattle.search.proofs.LawFirst.{first-start, first-here, first-rest}
 use Rattle.desk.specs.Key.{keyFields, before, keyLess, keySame}
 use Rattle.desk.specs.Book.{rowCount, rowStart, keyAt, rises, rowOk, bookOk}
-use Rattle.desk.specs.Row.{rowHas, rowBefore, Cut}
+use Rattle.desk.specs.Row.{rowHas}
+use Rattle.desk.specs.Inner.{rowBefore, Cut}
 use Rattle.desk.specs.declared.key.Key.{Key}
 use Rattle.desk.proofs.LawBook.{row-good}
 

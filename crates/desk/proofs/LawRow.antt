@@ -1,5 +1,4 @@
 -- What the row search finds in a good book.
-use Rattle.search.proofs.LawTest.{clash}
 use Prim.Native.Nat.{ℕ, _+_, _≤_, _<_}
 use mathlib.Core.Bool.{true}
 use mathlib.Core.Path.{_≡_, refl}
@@ -8,9 +7,11 @@ use native.Mathlib.Omega.{arith}
 use Rattle.search.specs.First.{first}
 use Rattle.search.specs.declared.found.Found.{Found}
 use Rattle.search.specs.declared.found.Found.the-variants.{At, Nothing}
+use Rattle.search.proofs.LawTest.{clash}
 use Rattle.search.proofs.LawFirst.{first-below, or-else-below}
 use Rattle.desk.specs.Key.{allScales}
-use Rattle.desk.specs.Book.{rowCount, techniqueBlock, techniqueEfficiency, bookOk}
+use Rattle.desk.specs.Book.{rowCount, techniqueBlock, techniqueEfficiency, bookOk, mostCoefficient}
+use Rattle.amounts.specs.Line.{wholeShare}
 use Rattle.desk.specs.Row.{rowHas, rowIndex, rowAt, rowFrom, rowOf}
 use Rattle.desk.specs.declared.key.Key.{Key}
 use Rattle.desk.specs.declared.row.Row.{Row}
@@ -27,8 +28,8 @@ row-below b k i h =
 
 -- a row of a good book with the technique block t
 pub record GoodRow (t : List ℕ) (row : Row) : Type 0 where
-  pub coefficient : row .coefficient ≤ 100_000_000
-  pub efficiency : (j : ℕ) → j < row .techniques → techniqueEfficiency t (row .first + j) ≤ 1000
+  pub coefficient : row .coefficient ≤ mostCoefficient
+  pub efficiency : (j : ℕ) → j < row .techniques → techniqueEfficiency t (row .first + j) ≤ wholeShare
 
 good-at : (b : List ℕ) → bookOk b ≡ true → (i : ℕ) → i < rowCount b → GoodRow (techniqueBlock b) (rowAt b i)
 unfolding rowAt

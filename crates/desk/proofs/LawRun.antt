@@ -14,7 +14,7 @@ use lib.Seq.{getD-set-same, getD-set-other}
 use Rattle.search.specs.Test.{all, every}
 use Rattle.search.proofs.LawTest.{either-way, and-left, and-right, all-at, all-of}
 use Rattle.desk.specs.Book.{techniqueCode, techniqueOk, techniquesOk}
-use Rattle.desk.specs.Run.{lawful, runBefore, runOf, Runs, listOk}
+use Rattle.desk.specs.InnerRun.{lawful, runBefore, runOf, Runs, listOk}
 
 -- the c techniques from f on are lawful, and their codes rise
 record Good (t : List ℕ) (f c : ℕ) : Type 0 where

@@ -1,4 +1,5 @@
 pub mod LawBook
+pub mod LawColumns
 pub mod LawRun
 pub mod LawOrder
 pub mod LawRow
@@ -6,4 +7,3 @@ pub mod LawReading
 pub mod LawAccount
 pub mod LawTable
 pub mod LawDeclare
-pub mod LawRefusal

@@ -1,16 +1,19 @@
--- "From a line to its amounts": what is answered for one line, with the numbers 4 to 11 of its refusals.
-use Prim.Native.Nat.{ℕ, _+_, _*_, _≤_}
-use mathlib.Core.Bool.{_&&_, cond}
+-- "From a line to its amounts": what is answered for one line, with what may be wrong in the paper's order, 4 to 11.
+use Prim.Native.Nat.{ℕ, _+_, _*_}
+use mathlib.Core.Bool.{Bool, _||_, cond}
 use mathlib.Core.List.{List}
-use lib.Dec.{leb, eqb}
+use lib.Dec.{ltb, eqb}
 use Rattle.search.specs.declared.found.Found.{Found}
 use Rattle.search.specs.declared.found.Found.the-variants.{At, Nothing}
-use Rattle.amounts.specs.Line.{amountsOf}
+use Rattle.amounts.specs.Line.{wholeShare, amountsOf}
 use Rattle.desk.specs.Book.{techniqueBlock, techniqueEfficiency}
 use Rattle.desk.specs.Row.{rowOf}
 use Rattle.desk.specs.Technique.{techniqueIndex}
 use Rattle.desk.specs.Reading.{goesWith, shareOf}
-use Rattle.desk.specs.Line.{lineOf}
+use Rattle.desk.specs.Line.{mostKilograms, lineOf}
+use Rattle.desk.specs.Lent.{Lent}
+use Rattle.desk.specs.Cells.{rowFrom}
+use Rattle.desk.specs.declared.answer.LineFault.the-variants.{ActivityTooLarge, ReuseTooLarge, NoRow, NoTechnique, WrongKind}
 use Rattle.desk.specs.declared.line.Line.{Line}
 use Rattle.desk.specs.declared.row.Row.{Row}
 use Rattle.desk.specs.declared.row.RowSearch.{RowSearch}
@@ -23,19 +26,19 @@ use Rattle.desk.specs.declared.account.Treatment.the-variants.{By, NoTre
 use Rattle.desk.specs.declared.account.LineOutcome.{LineOutcome}
 use Rattle.desk.specs.declared.account.LineOutcome.the-variants.{Given, Refusal}
 
--- the efficiency with k, or 9, 10, 11
-abbrev pub treated : ℕ → Share → Treatment
+-- the efficiency with k
+abbrev pub treated : (e : ℕ) (k : Share) → Treatment
 treated e (Part n d) = By e n d
-treated e (NoShare number) = NoTreatment number
+treated e (NoShare fault) = NoTreatment fault
 
--- 7: not in the row's list; 8: a kind that does not go with the row's k rule
-abbrev pub byTechnique : List ℕ → Row → Reading → Found → Treatment
-byTechnique t row reading Nothing = NoTreatment 7
+-- the technique at place j of the row's list, with a reading of a kind that goes with the row's k rule
+abbrev pub byTechnique : (t : List ℕ) (row : Row) (reading : Reading) (place : Found) → Treatment
+byTechnique t row reading Nothing = NoTreatment NoTechnique
 byTechnique t row reading (At j) =
-    cond (goesWith reading (row .rule)) (treated (techniqueEfficiency t (row .first + j)) (shareOf reading)) (NoTreatment 8)
+    cond (goesWith reading (row .rule)) (treated (techniqueEfficiency t (row .first + j)) (shareOf reading)) (NoTreatment WrongKind)
 
 -- technique 0 is direct discharge: efficiency and k are 0, and the reading is not looked at
-unfoldable pub treatmentOf : List ℕ → Row → ℕ → Reading → Treatment
+unfoldable pub treatmentOf : (t : List ℕ) (row : Row) (technique : ℕ) (reading : Reading) → Treatment
 treatmentOf t row technique reading =
     cond (eqb technique 0) (By 0 0 1) (byTechnique t row reading (techniqueIndex t (row .first) (row .techniques) technique))
 
@@ -43,26 +46,28 @@ treatmentOf t row technique reading =
 unfoldable pub generatedOf : Row → Line → ℕ
 generatedOf row line = row .coefficient * cond (eqb (row .basis) 1) (line .product) (line .material)
 
-abbrev pub byTreatment : Row → Line → Treatment → LineOutcome
-byTreatment row line (NoTreatment number) = Refusal number
-byTreatment row line (By e n d) = Given (amountsOf (generatedOf row line) e n d (line .reuse) (eqb (line .key .medium) 1))
+-- medium 1
+abbrev pub inWater : Line → Bool
+inWater line = eqb (line .key .medium) 1
 
--- 6: no row
-abbrev pub byRow : List ℕ → Line → RowSearch → LineOutcome
-byRow t line Miss = Refusal 6
+abbrev pub byTreatment : (row : Row) (line : Line) (treatment : Treatment) → LineOutcome
+byTreatment row line (NoTreatment fault) = Refusal fault
+byTreatment row line (By e n d) = Given (rowFrom (amountsOf (generatedOf row line) e n d (line .reuse) (inWater line)))
+
+abbrev pub byRow : (t : List ℕ) (line : Line) (row : RowSearch) → LineOutcome
+byRow t line Miss = Refusal NoRow
 byRow t line (Hit row) = byTreatment row line (treatmentOf t row (line .technique) (line .reading))
 
--- 4: product or material above 10^9 kg; 5: reuse above 1000
-unfoldable pub accountOf : List ℕ → Line → LineOutcome
+-- product or material above 10^9 kg
+abbrev pub excessive : Line → Bool
+excessive line = ltb mostKilograms (line .product) || ltb mostKilograms (line .material)
+
+unfoldable pub accountOf : (b : List ℕ) (line : Line) → LineOutcome
 accountOf b line =
-    cond (leb (line .product) 1_000_000_000 && leb (line .material) 1_000_000_000)
-    (cond (leb (line .reuse) 1000) (byRow (techniqueBlock b) line (rowOf b (line .key))) (Refusal 5))
-    (Refusal 4)
+    cond (excessive line) (Refusal ActivityTooLarge)
+    (cond (ltb wholeShare (line .reuse)) (Refusal ReuseTooLarge)
+    (byRow (techniqueBlock b) line (rowOf b (line .key))))
 
--- what rule 4 leaves
-abbrev pub Moderate : Line → Type 0
-Moderate line = (line .product ≤ 1_000_000_000) × (line .material ≤ 1_000_000_000)
-
--- line i of the sheet under the book
-unfoldable pub lineOutcome : List ℕ → List ℕ → ℕ → LineOutcome
-lineOutcome b s i = accountOf b (lineOf s i)
+-- line i of the sheet under the book, counted from 0
+unfoldable pub lineOutcome : (f : Lent) (i : ℕ) → LineOutcome
+lineOutcome f i = accountOf (f .book) (lineOf (f .sheet) i)

@@ -3,25 +3,40 @@ use Prim.Native.Nat.{ℕ, _+_, _*_, _-_, _^_}
 use mathlib.Core.Bool.{Bool, _&&_, _||_, not}
 use mathlib.Core.List.{List, [], _∷_}
 use lib.Dec.{leb, ltb, eqb}
+use Rattle.amounts.specs.Line.{wholeShare}
 use Rattle.little.specs.Read.{byteAt, u16At, u32At}
 use Rattle.little.specs.Part.{partOf}
 use Rattle.search.specs.Test.{all, every}
-use Rattle.desk.specs.House.{wholeLength, fileOk}
+use Rattle.desk.specs.House.{fileOk}
 use Rattle.desk.specs.Key.{keyFrom, keyLess}
 use Rattle.desk.specs.declared.key.Key.{Key}
 
--- ---- the header, 16 bytes
+-- ---- the header
 
+-- where it begins and its size, the size of a row, and what it states
 pub record BookHeader : Type 0 where
+  pub origin : ℕ
+  pub size : ℕ
+  pub rowSize : ℕ
   pub length : ℕ
   pub rows : ℕ
   pub techniques : ℕ
   pub rowOffset : ℕ
   pub techniqueOffset : ℕ
 
+-- 16 bytes: whole length u32, row count u16, technique count u16, row offset u32, technique offset u32. A row has 24
 abbrev pub bookHeader : List ℕ → BookHeader
 bookHeader b =
-    record { length = wholeLength b; rows = u16At b 4; techniques = u16At b 6; rowOffset = u32At b 8; techniqueOffset = u32At b 12 }
+    record {
+      origin = 0;
+      size = 16;
+      rowSize = 24;
+      length = u32At b 0;
+      rows = u16At b 4;
+      techniques = u16At b 6;
+      rowOffset = u32At b 8;
+      techniqueOffset = u32At b 12;
+    }
 
 abbrev pub rowCount : List ℕ → ℕ
 rowCount b = bookHeader b .rows
@@ -29,8 +44,11 @@ rowCount b = bookHeader b .rows
 abbrev pub techniqueCount : List ℕ → ℕ
 techniqueCount b = bookHeader b .techniques
 
-abbrev pub rowSize : ℕ
-rowSize = 24
+abbrev pub mostRows : ℕ
+mostRows = 1024
+
+abbrev pub mostTechniques : ℕ
+mostTechniques = 4096
 
 abbrev pub techniqueSize : ℕ
 techniqueSize = 4
@@ -39,15 +57,15 @@ techniqueSize = 4
 abbrev pub bookFits : BookHeader → Bool
 bookFits h =
     every
-    (leb (h .rows) 1024
-    ∷ leb (h .techniques) 4096
-    ∷ leb 16 (h .rowOffset)
-    ∷ leb (h .rowOffset + rowSize * h .rows) (h .techniqueOffset)
+    (leb (h .rows) mostRows
+    ∷ leb (h .techniques) mostTechniques
+    ∷ leb (h .size) (h .rowOffset)
+    ∷ leb (h .rowOffset + h .rowSize * h .rows) (h .techniqueOffset)
     ∷ leb (h .techniqueOffset + techniqueSize * h .techniques) (h .length)
     ∷ [])
 
 unfoldable pub bookHeaderOk : List ℕ → Bool
-bookHeaderOk b = fileOk b 16 && bookFits (bookHeader b)
+bookHeaderOk b = fileOk b (bookHeader b .origin) (bookHeader b .size) && bookFits (bookHeader b)
 
 -- ---- a technique, 4 bytes of the block: code u16, efficiency u16
 
@@ -61,23 +79,23 @@ techniqueCode t k = u16At t (techniqueSize * k)
 abbrev pub techniqueEfficiency : List ℕ → ℕ → ℕ
 techniqueEfficiency t k = u16At t (techniqueSize * k + 2)
 
--- technique j of a list that begins at `first`: its code is not 0 and above the one before, its efficiency is at most 1000
-unfoldable pub techniqueOk : List ℕ → ℕ → ℕ → Bool
+-- technique j of a list that begins at `first`: its code is not 0 and above the one before, its efficiency is at most the whole
+unfoldable pub techniqueOk : (t : List ℕ) (first j : ℕ) → Bool
 techniqueOk t first j =
     every
     (not (eqb (techniqueCode t (first + j)) 0)
-    ∷ leb (techniqueEfficiency t (first + j)) 1000
+    ∷ leb (techniqueEfficiency t (first + j)) wholeShare
     ∷ (eqb j 0 || ltb (techniqueCode t (first + (j - 1))) (techniqueCode t (first + j)))
     ∷ [])
 
 -- the list lies in the block of `size` techniques, and each is right; of an empty list the first index is not looked at
-unfoldable pub techniquesOk : List ℕ → ℕ → ℕ → ℕ → Bool
+unfoldable pub techniquesOk : (t : List ℕ) (size first count : ℕ) → Bool
 techniquesOk t size first count = (eqb count 0 || leb (first + count) size) && all count (techniqueOk t first)
 
--- ---- a row, 24 bytes
+-- ---- a row
 
-abbrev pub rowStart : List ℕ → ℕ → ℕ
-rowStart b i = bookHeader b .rowOffset + rowSize * i
+abbrev pub rowStart : (b : List ℕ) (i : ℕ) → ℕ
+rowStart b i = bookHeader b .rowOffset + bookHeader b .rowSize * i
 
 -- what follows its industry, product, material, process and scale
 pub record RowFields : Type 0 where
@@ -130,6 +148,10 @@ fieldsFit f =
 unfoldable pub fieldsOk : List ℕ → ℕ → Bool
 fieldsOk b at = fieldsFit (fieldsAt b at)
 
+-- units per kilogram, at most
+abbrev pub mostCoefficient : ℕ
+mostCoefficient = 100_000_000
+
 -- digits × 10^(2 − places), 10^(5 − places) or 10^(8 − places) units per kilogram for units 1, 2, 3
 abbrev pub coefficient : RowFields → ℕ
 coefficient f = f .digits * 10 ^ (3 * f .unit - 1 - f .places)
@@ -142,14 +164,17 @@ unfoldable pub rises : List ℕ → ℕ → Bool
 rises b i = eqb i 0 || keyLess (keyAt b (rowStart b (i - 1))) (keyAt b (rowStart b i))
 
 -- row i of a book whose technique block is t
-unfoldable pub rowOk : List ℕ → List ℕ → ℕ → Bool
+unfoldable pub rowOk : (b t : List ℕ) (i : ℕ) → Bool
 rowOk b t i =
     every
     (fieldsOk b (rowStart b i)
-    ∷ leb (coefficientAt b (rowStart b i)) 100_000_000
+    ∷ leb (coefficientAt b (rowStart b i)) mostCoefficient
     ∷ techniquesOk t (techniqueCount b) (fieldsAt b (rowStart b i) .first) (fieldsAt b (rowStart b i) .techniques)
     ∷ rises b i
     ∷ [])
 
+abbrev pub rowsOk : List ℕ → Bool
+rowsOk b = all (rowCount b) (rowOk b (techniqueBlock b))
+
 unfoldable pub bookOk : List ℕ → Bool
-bookOk b = bookHeaderOk b && all (rowCount b) (rowOk b (techniqueBlock b))
+bookOk b = bookHeaderOk b && rowsOk b

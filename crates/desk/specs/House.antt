@@ -1,4 +1,4 @@
--- What holds of every house file: it has its header, it is within the limit, and it begins with its whole length, the bytes given.
+-- What holds of every house file: it has its header, it is within the limit, and its whole length, stated at its origin, is the bytes given.
 use Prim.Native.Nat.{ℕ}
 use mathlib.Core.Bool.{Bool}
 use mathlib.Core.List.{List, [], _∷_}
@@ -7,8 +7,9 @@ use lib.Dec.{leb, eqb}
 use Rattle.little.specs.Read.{u32At}
 use Rattle.search.specs.Test.{every}
 
-abbrev pub wholeLength : List ℕ → ℕ
-wholeLength file = u32At file 0
+-- the bytes of a file, at most
+abbrev pub mostBytes : ℕ
+mostBytes = 65536
 
-unfoldable pub fileOk : List ℕ → ℕ → Bool
-fileOk file header = every (leb header (length file) ∷ leb (length file) 65536 ∷ eqb (wholeLength file) (length file) ∷ [])
+unfoldable pub fileOk : (file : List ℕ) (origin header : ℕ) → Bool
+fileOk file origin header = every (leb header (length file) ∷ leb (length file) mostBytes ∷ eqb (u32At file origin) (length file) ∷ [])

@@ -7,12 +7,8 @@ use Rattle.little.specs.Read.{u16At}
 use Rattle.search.specs.Test.{every}
 use Rattle.desk.specs.declared.key.Key.{Key}
 
--- Rows and lines start below this: an offset u32, and at most as many of them as a u16 counts.
-abbrev pub farthest : ℕ
-farthest = 8_589_934_592
-
 -- the five codes u16 that a row or a line begins with, and a medium and a pollutant
-unfoldable pub keyFrom : List ℕ → ℕ → ℕ → ℕ → Key
+unfoldable pub keyFrom : (s : List ℕ) (at medium pollutant : ℕ) → Key
 keyFrom s at medium pollutant =
     record {
       industry = u16At s at;

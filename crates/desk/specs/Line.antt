@@ -11,6 +11,10 @@ use Rattle.desk.specs.declared.line.Line.{Line}
 use Rattle.desk.specs.declared.reading.Reading.{Reading}
 use Rattle.desk.specs.declared.reading.Reading.the-variants.{None, Hours, Energy, Throughout}
 
+-- product and material, at most
+abbrev pub mostKilograms : ℕ
+mostKilograms = 1_000_000_000
+
 abbrev pub floatAt : List ℕ → ℕ → Float
 floatAt s at = ofBits binary64 (u64At s at)
 

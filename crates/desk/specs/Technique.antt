@@ -8,8 +8,8 @@ use Rattle.search.specs.declared.found.Found.{Found}
 use Rattle.desk.specs.Book.{techniqueCode}
 
 -- technique j of the list that begins at `from` has this code
-unfoldable pub techniqueHas : List ℕ → ℕ → ℕ → ℕ → Bool
+unfoldable pub techniqueHas : (t : List ℕ) (from code j : ℕ) → Bool
 techniqueHas t from code j = eqb (techniqueCode t (from + j)) code
 
-unfoldable pub techniqueIndex : List ℕ → ℕ → ℕ → ℕ → Found
+unfoldable pub techniqueIndex : (t : List ℕ) (from count code : ℕ) → Found
 techniqueIndex t from count code = first count (techniqueHas t from code)

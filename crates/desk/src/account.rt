@@ -1,14 +1,21 @@
 // From a line to its amounts.
 ghost use mathlib.Core.Path.{_≡_};
 ghost use mathlib.Core.Bool.{true};
-ghost use Prim.Native.Nat.{_≤_, _<_};
+ghost use Prim.Native.Nat.{_<_};
 ghost use Rattle.amounts.specs.Line.{Admissible, amountsOf};
 ghost use Rattle.desk.specs.Book.{bookOk, techniqueBlock};
 ghost use Rattle.desk.specs.Reading.{shareOf};
-ghost use Rattle.desk.specs.Row.{SmallRow, rowOf};
-ghost use Rattle.desk.specs.Account.{treated, treatmentOf, generatedOf, Moderate, byRow, accountOf, lineOutcome};
+ghost use Rattle.desk.specs.Row.{rowOf};
+ghost use Rattle.desk.specs.Lent.{lent};
+ghost use Rattle.desk.specs.Account.{treated, treatmentOf, generatedOf, byRow, accountOf, lineOutcome};
+ghost use Rattle.desk.specs.Inner.{counted, SmallRow, SmallProduct, Accountable};
+use super::answer::LineFault;
 use super::book::technique_block;
+use super::cells::TableRow;
+use super::cells::row_from;
 use super::line::Line;
+use super::line::MOST_KILOGRAMS;
+use super::line::WHOLE_SHARE;
 use super::line::line_of;
 use super::reading::Reading;
 use super::reading::Share;
@@ -24,16 +31,16 @@ use amounts::line::Worked;
 use amounts::line::work;
 use search::found::Found;
 
-// The efficiency with k as n over d, or the number of the refusal.
+// The efficiency with k as n over d, or what is wrong.
 pub enum Treatment {
     By(usize, u64, u64),
-    NoTreatment(usize),
+    NoTreatment(LineFault),
 }
 
-// The four amounts, or the number of the refusal.
+// The line's row of the table, or what is wrong.
 pub enum LineOutcome {
-    Given(Amounts),
-    Refusal(usize),
+    Given(TableRow),
+    Refusal(LineFault),
 }
 
 fn treated(efficiency: usize, reading: Reading) -> Treatment
@@ -41,7 +48,7 @@ fn treated(efficiency: usize, reading: Reading) -> Treatment
 {
     match share_of(reading) {
         Share::Part(n, d) => Treatment::By(efficiency, n, d),
-        Share::NoShare(number) => Treatment::NoTreatment(number),
+        Share::NoShare(fault) => Treatment::NoTreatment(fault),
     }
 }
 
@@ -54,19 +61,19 @@ fn treatment_of(t: &[u8], row: Row, technique: usize, reading: Reading) -> Treat
         return Treatment::By(0, 0, 1);
     }
     match technique_index(t, row.first, row.techniques, technique) {
-        Found::Nothing => Treatment::NoTreatment(7),
+        Found::Nothing => Treatment::NoTreatment(LineFault::NoTechnique),
         Found::At(j) => {
             if goes_with(reading, row.rule) {
                 treated(efficiency_at(t, row.first + j), reading)
             } else {
-                Treatment::NoTreatment(8)
+                Treatment::NoTreatment(LineFault::WrongKind)
             }
         }
     }
 }
 
 fn generated(row: Row, line: Line) -> u64
-    requires { ⌜ (row .coefficient ≤ 100_000_000) × Moderate line ⌝ }
+    requires { ⌜ SmallProduct row line ⌝ }
     ensures { λ r. ⌜ r ≡ generatedOf row line ⌝ }
 {
     if row.basis == 1 {
@@ -100,28 +107,28 @@ fn amounts_of(
 }
 
 fn by_row(b: &[u8], line: Line) -> LineOutcome
-    requires { ⌜ (bookOk (now b) ≡ true) × Moderate line × (line .reuse ≤ 1000) ⌝ }
+    requires { ⌜ Accountable (now b) line ⌝ }
     ensures { λ r. ⌜ r ≡ byRow (techniqueBlock (now (b .entry))) line (rowOf (now (b .entry)) (line .key)) ⌝ }
 {
     let key = line.key;
     let reading = line.reading;
     match row_of(b, key) {
-        RowSearch::Miss => LineOutcome::Refusal(6),
+        RowSearch::Miss => LineOutcome::Refusal(LineFault::NoRow),
         RowSearch::Hit(row) => match treatment_of(
             technique_block(b),
             row,
             line.technique,
             reading,
         ) {
-            Treatment::NoTreatment(number) => LineOutcome::Refusal(number),
-            Treatment::By(efficiency, n, d) => LineOutcome::Given(amounts_of(
+            Treatment::NoTreatment(fault) => LineOutcome::Refusal(fault),
+            Treatment::By(efficiency, n, d) => LineOutcome::Given(row_from(amounts_of(
                 generated(row, line),
                 efficiency,
                 n,
                 d,
                 line.reuse,
                 key.medium == 1,
-            )),
+            ))),
         },
     }
 }
@@ -130,22 +137,19 @@ pub(crate) fn account(b: &[u8], line: Line) -> LineOutcome
     requires { ⌜ bookOk (now b) ≡ true ⌝ }
     ensures { λ r. ⌜ r ≡ accountOf (now (b .entry)) line ⌝ }
 {
-    let moderate = (line.product <= 1_000_000_000) & (line.material <= 1_000_000_000);
-    let reuse = line.reuse;
-    if moderate {
-        if reuse <= 1000 {
-            by_row(b, line)
-        } else {
-            LineOutcome::Refusal(5)
-        }
-    } else {
-        LineOutcome::Refusal(4)
+    let excessive = (MOST_KILOGRAMS < line.product) | (MOST_KILOGRAMS < line.material);
+    if excessive {
+        return LineOutcome::Refusal(LineFault::ActivityTooLarge);
     }
+    if WHOLE_SHARE < line.reuse {
+        return LineOutcome::Refusal(LineFault::ReuseTooLarge);
+    }
+    by_row(b, line)
 }
 
 pub(crate) fn line_outcome(b: &[u8], s: &[u8], i: usize) -> LineOutcome
-    requires { ⌜ (i < 65536) × (bookOk (now b) ≡ true) ⌝ }
-    ensures { λ r. ⌜ r ≡ lineOutcome (now (b .entry)) (now (s .entry)) i ⌝ }
+    requires { ⌜ (i < counted) × (bookOk (now b) ≡ true) ⌝ }
+    ensures { λ r. ⌜ r ≡ lineOutcome (lent (now (b .entry)) (now (s .entry))) i ⌝ }
 {
     account(b, line_of(s, i))
 }

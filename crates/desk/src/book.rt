@@ -3,10 +3,10 @@ ghost use mathlib.Core.Path.{_≡_};
 ghost use mathlib.Core.Bool.{true};
 ghost use Prim.Native.Nat.{_<_, _^_};
 ghost use Rattle.little.specs.Read.{Reads};
-ghost use Rattle.search.specs.Test.{all};
-ghost use Rattle.desk.specs.Key.{farthest};
-ghost use Rattle.desk.specs.Book.{bookHeaderOk, techniqueBlock, rowStart, rowCount, keyAt, fieldsOk, coefficientAt, rises, rowOk, bookOk, techniqueCount};
-ghost use Rattle.desk.specs.Run.{Runs};
+ghost use Rattle.desk.specs.Book.{bookHeader, rowCount, techniqueCount, bookHeaderOk, techniqueBlock};
+ghost use Rattle.desk.specs.Book.{rowStart, keyAt, fieldsOk, coefficientAt, rises, rowOk, rowsOk, bookOk};
+ghost use Rattle.desk.specs.Inner.{counted, farthest, u32Range};
+ghost use Rattle.desk.specs.InnerRun.{Runs};
 use super::house::file_ok;
 use super::key::Key;
 use super::key::key_from;
@@ -18,36 +18,71 @@ use little::read::byte_at;
 use little::read::u16_at;
 use little::read::u32_at;
 
+pub const HEADER_SIZE: usize = 16;
+
+pub const ROW_SIZE: usize = 24;
+
+pub const TECHNIQUE_SIZE: usize = 4;
+
+pub const MOST_ROWS: usize = 1024;
+
+pub const MOST_TECHNIQUES: usize = 4096;
+
+// Units per kilogram, at most.
+pub const MOST_COEFFICIENT: usize = 100_000_000;
+
+pub(crate) fn row_count(b: &[u8]) -> usize
+    ensures { λ r. ⌜ Reads r (rowCount (now (b .entry))) counted ⌝ }
+{
+    u16_at(b, 4)
+}
+
+fn technique_count(b: &[u8]) -> usize
+    ensures { λ r. ⌜ Reads r (techniqueCount (now (b .entry))) counted ⌝ }
+{
+    u16_at(b, 6)
+}
+
+fn row_offset(b: &[u8]) -> usize
+    ensures { λ r. ⌜ Reads r (bookHeader (now (b .entry)) .rowOffset) u32Range ⌝ }
+{
+    u32_at(b, 8)
+}
+
+fn technique_offset(b: &[u8]) -> usize
+    ensures { λ r. ⌜ Reads r (bookHeader (now (b .entry)) .techniqueOffset) u32Range ⌝ }
+{
+    u32_at(b, 12)
+}
+
 fn book_header_ok(b: &[u8]) -> bool
     ensures { λ r. ⌜ r ≡ bookHeaderOk (now (b .entry)) ⌝ }
 {
     let length = u32_at(b, 0);
-    let rows = u16_at(b, 4);
-    let techniques = u16_at(b, 6);
-    let row_offset = u32_at(b, 8);
-    let technique_offset = u32_at(b, 12);
-    let fits = (rows <= 1024)
-        & (techniques <= 4096)
-        & (16 <= row_offset)
-        & (row_offset + 24 * rows <= technique_offset)
-        & (technique_offset + 4 * techniques <= length);
-    file_ok(b, 16) & fits
+    let rows = row_count(b);
+    let techniques = technique_count(b);
+    let rows_from = row_offset(b);
+    let techniques_from = technique_offset(b);
+    let fits = (rows <= MOST_ROWS)
+        & (techniques <= MOST_TECHNIQUES)
+        & (HEADER_SIZE <= rows_from)
+        & (rows_from + ROW_SIZE * rows <= techniques_from)
+        & (techniques_from + TECHNIQUE_SIZE * techniques <= length);
+    file_ok(b, 0, HEADER_SIZE) & fits
 }
 
 // The technique block is a part of the book that begins at its offset.
-pub fn technique_block(b: &[u8]) -> &[u8]
+pub(crate) fn technique_block(b: &[u8]) -> &[u8]
     ensures { λ r. ⌜ now r ≡ techniqueBlock (now (b .entry)) ⌝ }
 {
-    let offset = u32_at(b, 12);
-    let techniques = u16_at(b, 6);
-    part(b, offset, 4 * techniques)
+    part(b, technique_offset(b), TECHNIQUE_SIZE * technique_count(b))
 }
 
 pub(crate) fn row_start(b: &[u8], i: usize) -> usize
-    requires { ⌜ i < 65536 ⌝ }
+    requires { ⌜ i < counted ⌝ }
     ensures { λ r. ⌜ Reads r (rowStart (now (b .entry)) i) farthest ⌝ }
 {
-    u32_at(b, 8) + 24 * i
+    row_offset(b) + ROW_SIZE * i
 }
 
 pub(crate) fn key_at(b: &[u8], at: usize) -> Key
@@ -112,7 +147,7 @@ pub(crate) fn coefficient_at(b: &[u8], at: usize) -> usize
 
 // Row i stands after the row before it.
 fn rises(b: &[u8], i: usize) -> bool
-    requires { ⌜ i < 65536 ⌝ }
+    requires { ⌜ i < counted ⌝ }
     ensures { λ r. ⌜ r ≡ rises (now (b .entry)) i ⌝ }
 {
     if i == 0 {
@@ -123,15 +158,15 @@ fn rises(b: &[u8], i: usize) -> bool
 }
 
 fn row_ok(b: &[u8], runs: &[u16], i: usize) -> bool
-    requires { ⌜ (i < 65536) × Runs (techniqueBlock (now b)) (techniqueCount (now b)) (now runs) ⌝ }
+    requires { ⌜ (i < counted) × Runs (techniqueBlock (now b)) (techniqueCount (now b)) (now runs) ⌝ }
     ensures { λ r. ⌜ r ≡ rowOk (now (b .entry)) (techniqueBlock (now (b .entry))) i ⌝ }
 {
-    let size = u16_at(b, 6);
+    let size = technique_count(b);
     let at = row_start(b, i);
     if fields_ok(b, at) {
         let first = u16_at(b, at + 20);
         let techniques = u16_at(b, at + 22);
-        (coefficient_at(b, at) <= 100_000_000)
+        (coefficient_at(b, at) <= MOST_COEFFICIENT)
             & list_ok(runs, size, first, techniques)
             & rises(b, i)
     } else {
@@ -141,9 +176,9 @@ fn row_ok(b: &[u8], runs: &[u16], i: usize) -> bool
 
 fn rows_ok(b: &[u8], runs: &[u16]) -> bool
     requires { ⌜ Runs (techniqueBlock (now b)) (techniqueCount (now b)) (now runs) ⌝ }
-    ensures { λ r. ⌜ r ≡ all (rowCount (now (b .entry))) (rowOk (now (b .entry)) (techniqueBlock (now (b .entry)))) ⌝ }
+    ensures { λ r. ⌜ r ≡ rowsOk (now (b .entry)) ⌝ }
 {
-    let rows = u16_at(b, 4);
+    let rows = row_count(b);
     let mut ok = true;
     let mut i = 0;
     while i < rows {
@@ -153,13 +188,13 @@ fn rows_ok(b: &[u8], runs: &[u16]) -> bool
     ok
 }
 
-// Rows are looked at only where the header is right, so that no wrong count is walked.
+// Whether a book of any content and size is right. Rows are looked at only where the header is, so that no wrong count is walked.
 pub fn book_ok(b: &[u8]) -> bool
     ensures { λ r. ⌜ r ≡ bookOk (now (b .entry)) ⌝ }
 {
     if book_header_ok(b) {
-        let mut runs = [0u16; 4096];
-        fill_runs(technique_block(b), u16_at(b, 6), &mut runs);
+        let mut runs = [0u16; MOST_TECHNIQUES];
+        fill_runs(technique_block(b), technique_count(b), &mut runs);
         rows_ok(b, &runs)
     } else {
         false

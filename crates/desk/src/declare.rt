@@ -1,35 +1,37 @@
 // The whole desk: the exact table and the shown one.
 ghost use mathlib.Core.Path.{_≡_};
-ghost use mathlib.Core.Bool.{true};
-ghost use mathlib.Core.List.{_++_};
-ghost use Prim.Native.Nat.{_≤_, _+_, _*_, min};
-ghost use lib.ListN.{length, take, drop};
-ghost use Rattle.settle.specs.Table.{Good};
-ghost use Rattle.settle.specs.Step.{shownTable};
-ghost use Rattle.desk.specs.Book.{bookOk};
-ghost use Rattle.desk.specs.Sheet.{sheetHeader, lineCount, sheetOk};
-ghost use Rattle.desk.specs.Account.{lineOutcome};
-ghost use Rattle.desk.specs.Table.{width, byLines};
-ghost use Rattle.desk.specs.Declare.{unitOf, BothAfter, Declared};
-use super::table::Outcome;
-use super::table::before_lines;
+ghost use Prim.Native.Nat.{min};
+ghost use lib.ListN.{length};
+ghost use Rattle.desk.specs.Lent.{lent};
+ghost use Rattle.desk.specs.Declare.{unitOfSheet, Declared};
+ghost use Rattle.desk.specs.Inner.{Ready, Showable, shownOver, LinesDeclared};
+use super::answer::Outcome;
+use super::cells::COLUMNS;
+use super::sheet::line_count;
+use super::table::by_files;
 use super::table::fill;
 use little::cells::clear;
-use little::read::u16_at;
 use little::read::u32_at;
 
-// W, the shown unit of a sheet in units of 10 micrograms.
+// One unit is 10 micrograms.
+pub const GRAM: u64 = 100_000;
+
+pub const KILOGRAM: u64 = 100_000_000;
+
+pub const TONNE: u64 = 100_000_000_000;
+
+// W, the shown unit of a sheet in units of 10 micrograms. Of a code that no good sheet has, a tonne.
 pub fn unit_of(s: &[u8]) -> u64
-    ensures { λ r. ⌜ r ≡ unitOf (sheetHeader (now (s .entry)) .shownUnit) ⌝ }
+    ensures { λ r. ⌜ r ≡ unitOfSheet (now (s .entry)) ⌝ }
 {
     let code = u32_at(s, 12);
     if code == 1 {
-        return 100_000;
+        return GRAM;
     }
     if code == 2 {
-        return 100_000_000;
+        return KILOGRAM;
     }
-    100_000_000_000
+    TONNE
 }
 
 fn shorter(a: usize, b: usize) -> usize
@@ -40,23 +42,23 @@ fn shorter(a: usize, b: usize) -> usize
 
 // An exact table is one that can be settled, so that the other answers of `show` do not come.
 fn show(unit: u64, lines: usize, exact: &[u64], shown: &mut [u64])
-    requires { ⌜ (lines ≤ 128) × (width * (lines + 1) ≤ length (now exact)) × (width * (lines + 1) ≤ length (now shown)) × Good unit width (lines + 1) (take (width * (lines + 1)) (now exact)) ⌝ }
-    ensures { λ _. ⌜ now (shown .exit) ≡ shownTable unit width (lines + 1) (take (width * (lines + 1)) (now (exact .entry))) ++ drop (width * (lines + 1)) (now (shown .entry)) ⌝ }
+    requires { ⌜ Showable unit lines (now exact) (now shown) ⌝ }
+    ensures { λ _. ⌜ now (shown .exit) ≡ shownOver unit lines (now (exact .entry)) (now (shown .entry)) ⌝ }
 {
-    let cells = 4 * (lines + 1);
-    settle::show(unit, 4, lines + 1, &exact[..cells], shown);
+    let cells = COLUMNS * (lines + 1);
+    settle::show(unit, COLUMNS, lines + 1, &exact[..cells], shown);
 }
 
 fn both_tables(book: &[u8], sheet: &[u8], exact: &mut [u64], shown: &mut [u64]) -> Outcome
-    requires { ⌜ (bookOk (now book) ≡ true) × (sheetOk (now sheet) ≡ true) × (width * (lineCount (now sheet) + 1) ≤ length (now exact)) × (width * (lineCount (now sheet) + 1) ≤ length (now shown)) ⌝ }
-    ensures answer { λ r. ⌜ r ≡ byLines (lineCount (now (sheet .entry))) (lineOutcome (now (book .entry)) (now (sheet .entry))) ⌝ }
-    ensures cells { λ r. ⌜ BothAfter (unitOf (sheetHeader (now (sheet .entry)) .shownUnit)) (lineCount (now (sheet .entry))) (lineOutcome (now (book .entry)) (now (sheet .entry))) (now (exact .entry)) (now (shown .entry)) r (now (exact .exit)) (now (shown .exit)) ⌝ }
+    requires { ⌜ Ready (lent (now book) (now sheet)) (min (length (now exact)) (length (now shown))) ⌝ }
+    ensures { λ r. ⌜ LinesDeclared (lent (now (book .entry)) (now (sheet .entry)))
+        (now (exact .entry)) (now (shown .entry)) r (now (exact .exit)) (now (shown .exit)) ⌝ }
 {
-    let lines = u16_at(sheet, 4);
+    let lines = line_count(sheet);
     match fill(book, sheet, lines, exact) {
-        Outcome::Refused(number, line) => {
+        Outcome::Refused(fault, line) => {
             clear(shown);
-            Outcome::Refused(number, line)
+            Outcome::Refused(fault, line)
         }
         Outcome::Accepted => {
             show(unit_of(sheet), lines, exact, shown);
@@ -65,15 +67,17 @@ fn both_tables(book: &[u8], sheet: &[u8], exact: &mut [u64], shown: &mut [u64]) 
     }
 }
 
-// Rule 3 is for either result, before any line is looked at.
+// Figures, or one refusal, for a book and a sheet of any content and results of any size. Rule 3 is for either result, before any line
+// is looked at. On refusal every cell of both results is zero; on acceptance the cells past the tables keep their values.
 pub fn declare(book: &[u8], sheet: &[u8], exact: &mut [u64], shown: &mut [u64]) -> Outcome
-    ensures { λ r. ⌜ Declared (now (book .entry)) (now (sheet .entry)) (now (exact .entry)) (now (shown .entry)) r (now (exact .exit)) (now (shown .exit)) ⌝ }
+    ensures { λ r. ⌜ Declared (lent (now (book .entry)) (now (sheet .entry)))
+        (now (exact .entry)) (now (shown .entry)) r (now (exact .exit)) (now (shown .exit)) ⌝ }
 {
-    match before_lines(book, sheet, shorter(exact.len(), shown.len())) {
-        Outcome::Refused(number, line) => {
+    match by_files(book, sheet, shorter(exact.len(), shown.len())) {
+        Outcome::Refused(fault, line) => {
             clear(exact);
             clear(shown);
-            Outcome::Refused(number, line)
+            Outcome::Refused(fault, line)
         }
         Outcome::Accepted => both_tables(book, sheet, exact, shown),
     }

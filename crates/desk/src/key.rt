@@ -1,7 +1,8 @@
 // The seven fields by which a row of the book is found, and by which the rows rise.
 ghost use mathlib.Core.Path.{_≡_};
 ghost use Prim.Native.Nat.{_<_};
-ghost use Rattle.desk.specs.Key.{farthest, keyFrom, keyLess, keySame, allScales};
+ghost use Rattle.desk.specs.Inner.{farthest};
+ghost use Rattle.desk.specs.Key.{keyFrom, keyLess, keySame, allScales};
 use little::read::u16_at;
 
 pub struct Key {
@@ -30,7 +31,7 @@ pub(crate) fn key_from(s: &[u8], at: usize, medium: usize, pollutant: usize) -> 
     }
 }
 
-pub fn key_less(a: Key, b: Key) -> bool
+pub(crate) fn key_less(a: Key, b: Key) -> bool
     ensures { λ r. ⌜ r ≡ keyLess a b ⌝ }
 {
     (a.industry < b.industry)
@@ -48,7 +49,7 @@ pub fn key_less(a: Key, b: Key) -> bool
                                                     & (a.pollutant < b.pollutant))))))))))))
 }
 
-pub fn key_same(a: Key, b: Key) -> bool
+pub(crate) fn key_same(a: Key, b: Key) -> bool
     ensures { λ r. ⌜ r ≡ keySame a b ⌝ }
 {
     (a.industry == b.industry)
@@ -61,7 +62,7 @@ pub fn key_same(a: Key, b: Key) -> bool
 }
 
 // Scale 0 stands for all scales.
-pub fn all_scales(k: Key) -> Key
+pub(crate) fn all_scales(k: Key) -> Key
     ensures { λ r. ⌜ r ≡ allScales k ⌝ }
 {
     Key {

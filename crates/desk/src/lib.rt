@@ -1,6 +1,8 @@
 // The desk: it reads a coefficient book and a sheet, and accounts for the sheet's lines. It relies on `amounts` only through its promises.
 mod account;
+pub mod answer;
 pub mod book;
+pub mod cells;
 pub mod declare;
 pub mod house;
 pub mod key;

@@ -1,7 +1,7 @@
 // A line of a sheet as a value: what stands between the bytes and the accounts.
 ghost use mathlib.Core.Path.{_≡_};
 ghost use Prim.Native.Nat.{_<_};
-ghost use Rattle.desk.specs.Key.{farthest};
+ghost use Rattle.desk.specs.Inner.{counted, farthest};
 ghost use Rattle.desk.specs.Line.{floatAt, readingAt, lineOf};
 use super::key::Key;
 use super::key::key_from;
@@ -12,6 +12,12 @@ use amounts::reading::from_bits;
 use little::read::byte_at;
 use little::read::u16_at;
 use little::read::u64_at;
+
+// Efficiency and reuse are in tenths of a percent.
+pub const WHOLE_SHARE: usize = amounts::line::WHOLE_SHARE as usize;
+
+// Product and material, at most.
+pub const MOST_KILOGRAMS: u64 = 1_000_000_000;
 
 // The key has the sheet's medium and pollutant; product and material are in kilograms.
 pub struct Line {
@@ -54,7 +60,7 @@ fn reading_at(s: &[u8], at: usize) -> Reading
 }
 
 pub(crate) fn line_of(s: &[u8], i: usize) -> Line
-    requires { ⌜ i < 65536 ⌝ }
+    requires { ⌜ i < counted ⌝ }
     ensures { λ r. ⌜ r ≡ lineOf (now (s .entry)) i ⌝ }
 {
     let at = line_start(s, i);

@@ -1,8 +1,17 @@
 // A meter reading, and k: the share of the production that the treatment ran for.
 ghost use mathlib.Core.Path.{_≡_};
 ghost use Rattle.desk.specs.Reading.{goesWith, ratio, hoursShare, energyShare, shareOf};
+use super::answer::LineFault;
+use amounts::reading::PARTS_PER_UNIT;
 use amounts::reading::Taken;
-use amounts::reading::thousandths;
+use amounts::reading::parts_of;
+
+// Limits, in whole hours, kW and kWh.
+pub const MOST_HOURS: u32 = 8784;
+
+pub const MOST_KILOWATTS: u32 = 10000;
+
+pub const MOST_KILOWATT_HOURS: u32 = 10_000_000;
 
 pub struct EnergyReading {
     pub kwh: f64,
@@ -17,13 +26,14 @@ pub enum Reading {
     Throughout,
 }
 
-// k as n over d, or the number of the refusal.
+// k as n over d, or what is wrong.
 pub enum Share {
     Part(u64, u64),
-    NoShare(usize),
+    NoShare(LineFault),
 }
 
-pub fn goes_with(reading: Reading, rule: usize) -> bool
+// Kind 1 goes with k rule 1, kind 2 with k rule 2, kind 3 with either, kind 0 with none.
+pub(crate) fn goes_with(reading: Reading, rule: usize) -> bool
     ensures { λ r. ⌜ r ≡ goesWith reading rule ⌝ }
 {
     match reading {
@@ -33,7 +43,7 @@ pub fn goes_with(reading: Reading, rule: usize) -> bool
             production: _,
         } => rule == 1,
         Reading::Energy(_) => rule == 2,
-        Reading::Throughout => rule != 0,
+        Reading::Throughout => (rule == 1) | (rule == 2),
     }
 }
 
@@ -41,23 +51,23 @@ fn ratio(n: u64, d: u64) -> Share
     ensures { λ r. ⌜ r ≡ ratio n d ⌝ }
 {
     if d == 0 {
-        return Share::NoShare(10);
+        return Share::NoShare(LineFault::ZeroDivisor);
     }
     if n <= d {
         Share::Part(n, d)
     } else {
-        Share::NoShare(11)
+        Share::NoShare(LineFault::KAboveOne)
     }
 }
 
 fn hours_share(run: f64, production: f64) -> Share
     ensures { λ r. ⌜ r ≡ hoursShare run production ⌝ }
 {
-    let Taken::Is(n) = thousandths(run, 8784) else {
-        return Share::NoShare(9);
+    let Taken::Is(n) = parts_of(run, MOST_HOURS) else {
+        return Share::NoShare(LineFault::BadReading);
     };
-    let Taken::Is(d) = thousandths(production, 8784) else {
-        return Share::NoShare(9);
+    let Taken::Is(d) = parts_of(production, MOST_HOURS) else {
+        return Share::NoShare(LineFault::BadReading);
     };
     ratio(n, d)
 }
@@ -65,23 +75,24 @@ fn hours_share(run: f64, production: f64) -> Share
 fn energy_share(e: EnergyReading) -> Share
     ensures { λ r. ⌜ r ≡ energyShare e ⌝ }
 {
-    let Taken::Is(kwh) = thousandths(e.kwh, 10_000_000) else {
-        return Share::NoShare(9);
+    let Taken::Is(kwh) = parts_of(e.kwh, MOST_KILOWATT_HOURS) else {
+        return Share::NoShare(LineFault::BadReading);
     };
-    let Taken::Is(kw) = thousandths(e.kw, 10000) else {
-        return Share::NoShare(9);
+    let Taken::Is(kw) = parts_of(e.kw, MOST_KILOWATTS) else {
+        return Share::NoShare(LineFault::BadReading);
     };
-    let Taken::Is(hours) = thousandths(e.hours, 8784) else {
-        return Share::NoShare(9);
+    let Taken::Is(hours) = parts_of(e.hours, MOST_HOURS) else {
+        return Share::NoShare(LineFault::BadReading);
     };
-    ratio(kwh * 1000, kw * hours)
+    ratio(kwh * PARTS_PER_UNIT, kw * hours)
 }
 
-pub fn share_of(reading: Reading) -> Share
+// A line without a reading is refused before this is asked.
+pub(crate) fn share_of(reading: Reading) -> Share
     ensures { λ r. ⌜ r ≡ shareOf reading ⌝ }
 {
     match reading {
-        Reading::None => Share::NoShare(8),
+        Reading::None => Share::NoShare(LineFault::WrongKind),
         Reading::Hours { run, production } => hours_share(run, production),
         Reading::Energy(e) => energy_share(e),
         Reading::Throughout => Share::Part(1, 1),

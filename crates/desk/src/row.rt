@@ -4,9 +4,11 @@ ghost use mathlib.Core.Bool.{true};
 ghost use Prim.Native.Nat.{_<_};
 ghost use Rattle.search.specs.First.{Finds, first};
 ghost use Rattle.desk.specs.Book.{rowCount, rowStart, fieldsOk, bookOk};
-ghost use Rattle.desk.specs.Row.{rowHas, rowBefore, Cut, rowIndex, rowAt, ReadsRow, rowOf, FindsRow};
+ghost use Rattle.desk.specs.Inner.{counted, rowBefore, Cut, ReadsRow, FindsRow};
+ghost use Rattle.desk.specs.Row.{rowHas, rowIndex, rowAt, rowOf};
 use super::book::coefficient_at;
 use super::book::key_at;
+use super::book::row_count;
 use super::book::row_start;
 use super::key::Key;
 use super::key::all_scales;
@@ -31,14 +33,14 @@ pub enum RowSearch {
 }
 
 fn row_has(b: &[u8], k: Key, i: usize) -> bool
-    requires { ⌜ i < 65536 ⌝ }
+    requires { ⌜ i < counted ⌝ }
     ensures { λ r. ⌜ r ≡ rowHas (now (b .entry)) k i ⌝ }
 {
     key_same(key_at(b, row_start(b, i)), k)
 }
 
 fn row_before(b: &[u8], k: Key, i: usize) -> bool
-    requires { ⌜ i < 65536 ⌝ }
+    requires { ⌜ i < counted ⌝ }
     ensures { λ r. ⌜ r ≡ rowBefore (now (b .entry)) k i ⌝ }
 {
     key_less(key_at(b, row_start(b, i)), k)
@@ -50,7 +52,7 @@ fn rows_before(b: &[u8], k: Key) -> usize
     ensures { λ r. ⌜ Cut (now (b .entry)) k r r ⌝ }
 {
     let mut low = 0;
-    let mut high = u16_at(b, 4);
+    let mut high = row_count(b);
     while low < high {
         let middle = low + (high - low) / 2;
         if row_before(b, k, middle) {
@@ -64,10 +66,10 @@ fn rows_before(b: &[u8], k: Key) -> usize
 
 fn index_of(b: &[u8], k: Key) -> Found
     requires { ⌜ bookOk (now b) ≡ true ⌝ }
-    ensures { λ r. ⌜ Finds r (first (rowCount (now (b .entry))) (rowHas (now (b .entry)) k)) 65536 ⌝ }
+    ensures { λ r. ⌜ Finds r (first (rowCount (now (b .entry))) (rowHas (now (b .entry)) k)) counted ⌝ }
 {
     let i = rows_before(b, k);
-    if i < u16_at(b, 4) {
+    if i < row_count(b) {
         if row_has(b, k, i) {
             return Found::At(i);
         }
@@ -77,7 +79,7 @@ fn index_of(b: &[u8], k: Key) -> Found
 
 pub(crate) fn row_index(b: &[u8], k: Key) -> Found
     requires { ⌜ bookOk (now b) ≡ true ⌝ }
-    ensures { λ r. ⌜ Finds r (rowIndex (now (b .entry)) k) 65536 ⌝ }
+    ensures { λ r. ⌜ Finds r (rowIndex (now (b .entry)) k) counted ⌝ }
 {
     let any = all_scales(k);
     match index_of(b, k) {
@@ -87,7 +89,7 @@ pub(crate) fn row_index(b: &[u8], k: Key) -> Found
 }
 
 fn row_at(b: &[u8], i: usize) -> Row
-    requires { ⌜ (i < 65536) × (fieldsOk (now b) (rowStart (now b) i) ≡ true) ⌝ }
+    requires { ⌜ (i < counted) × (fieldsOk (now b) (rowStart (now b) i) ≡ true) ⌝ }
     ensures { λ r. ⌜ ReadsRow r (rowAt (now (b .entry)) i) ⌝ }
 {
     let at = row_start(b, i);

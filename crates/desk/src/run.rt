@@ -1,18 +1,22 @@
-// How far a lawful list of techniques goes from each place of the block. With it a row's list is checked in one step, so that a book is checked in
-// one pass over its bytes, even where every row names every technique.
+// How far a lawful list of techniques goes from each place of the block. With it a row's list is checked in one step, so that a book
+// is checked in one pass over its bytes, even where every row names every technique.
 ghost use mathlib.Core.Path.{_≡_};
 ghost use Prim.Native.Nat.{_<_, _≤_};
 ghost use lib.ListN.{length};
-ghost use Rattle.desk.specs.Run.{runBefore, Runs, listOk};
-use little::read::u16_at;
+ghost use Rattle.desk.specs.Book.{mostTechniques};
+ghost use Rattle.desk.specs.Inner.{counted};
+ghost use Rattle.desk.specs.InnerRun.{runBefore, Runs, listOk};
+use super::line::WHOLE_SHARE;
+use super::technique::code_at;
+use super::technique::efficiency_at;
 
 fn run_before(t: &[u8], k: usize, next: usize) -> usize
-    requires { ⌜ (k < 65536) × (next < 65536) ⌝ }
+    requires { ⌜ (k < counted) × (next < counted) ⌝ }
     ensures { λ r. ⌜ r ≡ runBefore (now (t .entry)) k next ⌝ }
 {
-    let code = u16_at(t, 4 * k);
-    if (code != 0) & (u16_at(t, 4 * k + 2) <= 1000) {
-        if code < u16_at(t, 4 * (k + 1)) {
+    let code = code_at(t, k);
+    if (code != 0) & (efficiency_at(t, k) <= WHOLE_SHARE) {
+        if code < code_at(t, k + 1) {
             next + 1
         } else {
             1
@@ -23,7 +27,7 @@ fn run_before(t: &[u8], k: usize, next: usize) -> usize
 }
 
 pub(crate) fn fill_runs(t: &[u8], size: usize, runs: &mut [u16])
-    requires { ⌜ (size ≤ 4096) × (size ≤ length (now runs)) ⌝ }
+    requires { ⌜ (size ≤ mostTechniques) × (size ≤ length (now runs)) ⌝ }
     ensures { λ _. ⌜ Runs (now (t .entry)) size (now (runs .exit)) ⌝ }
 {
     let mut k = size;
@@ -37,7 +41,7 @@ pub(crate) fn fill_runs(t: &[u8], size: usize, runs: &mut [u16])
 
 // A list that is empty is right wherever it begins.
 pub(crate) fn list_ok(runs: &[u16], size: usize, first: usize, count: usize) -> bool
-    requires { ⌜ (size ≤ length (now runs)) × (first < 65536) × (count < 65536) ⌝ }
+    requires { ⌜ (size ≤ length (now runs)) × (first < counted) × (count < counted) ⌝ }
     ensures { λ r. ⌜ r ≡ listOk (now (runs .entry)) size first count ⌝ }
 {
     if count == 0 {

@@ -2,44 +2,56 @@
 ghost use mathlib.Core.Path.{_≡_};
 ghost use Prim.Native.Nat.{_<_};
 ghost use Rattle.little.specs.Read.{Reads};
-ghost use Rattle.search.specs.Test.{all};
-ghost use Rattle.desk.specs.Key.{farthest};
-ghost use Rattle.desk.specs.Sheet.{sheetHeaderOk, lineStart, lineOk, lineCount, sheetOk};
+ghost use Rattle.desk.specs.Inner.{counted, farthest};
+ghost use Rattle.desk.specs.Sheet.{sheetHeaderOk, lineStart, lineOk, linesOk, lineCount, sheetOk};
 use super::house::file_ok;
 use little::read::byte_at;
 use little::read::u16_at;
 use little::read::u32_at;
 use little::read::u64_at;
 
+pub const HEADER_SIZE: usize = 16;
+
+pub const LINE_SIZE: usize = 64;
+
+pub const MOST_LINES: usize = 128;
+
+// The lines that the header of a sheet states; 0 for a sheet that has no header.
+pub fn line_count(s: &[u8]) -> usize
+    ensures { λ r. ⌜ Reads r (lineCount (now (s .entry))) counted ⌝ }
+{
+    u16_at(s, 4)
+}
+
 fn sheet_header_ok(s: &[u8]) -> bool
     ensures { λ r. ⌜ r ≡ sheetHeaderOk (now (s .entry)) ⌝ }
 {
     let length = u32_at(s, 0);
-    let lines = u16_at(s, 4);
+    let lines = line_count(s);
     let medium = byte_at(s, 6);
     let pollutant = byte_at(s, 7);
     let offset = u32_at(s, 8);
     let unit = u32_at(s, 12);
-    let fits = (lines <= 128)
+    let fits = (lines <= MOST_LINES)
         & (1 <= medium)
         & (medium <= 3)
         & (pollutant != 0)
-        & (16 <= offset)
-        & (offset + 64 * lines <= length)
+        & (HEADER_SIZE <= offset)
+        & (offset + LINE_SIZE * lines <= length)
         & (1 <= unit)
         & (unit <= 3);
-    file_ok(s, 16) & fits
+    file_ok(s, 0, HEADER_SIZE) & fits
 }
 
 pub(crate) fn line_start(s: &[u8], i: usize) -> usize
-    requires { ⌜ i < 65536 ⌝ }
+    requires { ⌜ i < counted ⌝ }
     ensures { λ r. ⌜ Reads r (lineStart (now (s .entry)) i) farthest ⌝ }
 {
-    u32_at(s, 8) + 64 * i
+    u32_at(s, 8) + LINE_SIZE * i
 }
 
 fn line_ok(s: &[u8], i: usize) -> bool
-    requires { ⌜ i < 65536 ⌝ }
+    requires { ⌜ i < counted ⌝ }
     ensures { λ r. ⌜ r ≡ lineOk (now (s .entry)) i ⌝ }
 {
     let at = line_start(s, i);
@@ -47,9 +59,9 @@ fn line_ok(s: &[u8], i: usize) -> bool
 }
 
 fn lines_ok(s: &[u8]) -> bool
-    ensures { λ r. ⌜ r ≡ all (lineCount (now (s .entry))) (lineOk (now (s .entry))) ⌝ }
+    ensures { λ r. ⌜ r ≡ linesOk (now (s .entry)) ⌝ }
 {
-    let lines = u16_at(s, 4);
+    let lines = line_count(s);
     let mut ok = true;
     let mut i = 0;
     while i < lines {
@@ -59,7 +71,7 @@ fn lines_ok(s: &[u8]) -> bool
     ok
 }
 
-// Lines are looked at only where the header is right, so that no wrong count is walked.
+// Whether a sheet of any content and size is right. Lines are looked at only where the header is, so that no wrong count is walked.
 pub fn sheet_ok(s: &[u8]) -> bool
     ensures { λ r. ⌜ r ≡ sheetOk (now (s .entry)) ⌝ }
 {

@@ -3,19 +3,21 @@ ghost use mathlib.Core.Path.{_≡_};
 ghost use Prim.Native.Nat.{_<_, _+_};
 ghost use Rattle.search.specs.First.{Finds};
 ghost use Rattle.little.specs.Read.{Reads};
-ghost use Rattle.desk.specs.Book.{techniqueEfficiency};
+ghost use Rattle.desk.specs.Book.{techniqueCode, techniqueEfficiency};
+ghost use Rattle.desk.specs.Inner.{counted};
 ghost use Rattle.desk.specs.Technique.{techniqueIndex};
+use super::book::TECHNIQUE_SIZE;
 use little::read::u16_at;
 use search::found::Found;
 
 // The place, in a row's list of `count` techniques that begins at `from`, of the one with this code.
 pub(crate) fn technique_index(t: &[u8], from: usize, count: usize, code: usize) -> Found
-    requires { ⌜ (from < 65536) × (count < 65536) ⌝ }
-    ensures { λ r. ⌜ Finds r (techniqueIndex (now (t .entry)) from count code) 65536 ⌝ }
+    requires { ⌜ (from < counted) × (count < counted) ⌝ }
+    ensures { λ r. ⌜ Finds r (techniqueIndex (now (t .entry)) from count code) counted ⌝ }
 {
     let mut j = 0;
     while j < count {
-        if u16_at(t, 4 * (from + j)) == code {
+        if code_at(t, from + j) == code {
             return Found::At(j);
         }
         j += 1;
@@ -23,9 +25,16 @@ pub(crate) fn technique_index(t: &[u8], from: usize, count: usize, code: usize) 
     Found::Nothing
 }
 
-pub(crate) fn efficiency_at(t: &[u8], index: usize) -> usize
-    requires { ⌜ index < 131_072 ⌝ }
-    ensures { λ r. ⌜ r ≡ techniqueEfficiency (now (t .entry)) index ⌝ }
+pub(crate) fn code_at(t: &[u8], k: usize) -> usize
+    requires { ⌜ k < counted + counted ⌝ }
+    ensures { λ r. ⌜ Reads r (techniqueCode (now (t .entry)) k) counted ⌝ }
 {
-    u16_at(t, 4 * index + 2)
+    u16_at(t, TECHNIQUE_SIZE * k)
+}
+
+pub(crate) fn efficiency_at(t: &[u8], k: usize) -> usize
+    requires { ⌜ k < counted + counted ⌝ }
+    ensures { λ r. ⌜ Reads r (techniqueEfficiency (now (t .entry)) k) counted ⌝ }
+{
+    u16_at(t, TECHNIQUE_SIZE * k + 2)
 }

@@ -18,7 +18,7 @@ pub fn verdict(good: bool) {
     }
 }
 
-pub fn refused(rule: usize, line: usize) {
+pub fn refused(rule: u16, line: u16) {
     say(b"refused");
     number(rule as u64);
     say(b" line");

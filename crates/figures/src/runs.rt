@@ -4,8 +4,8 @@ use super::make::Line;
 use super::print::refused;
 use super::print::say;
 use super::print::table;
+use desk::answer::Outcome;
 use desk::declare::declare;
-use desk::table::Outcome;
 use desk::table::exact_table;
 
 // The exact table of a sheet of one line.
@@ -20,7 +20,7 @@ fn run(name: &[u8], medium: u64, pollutant: u64, line: Line) {
     say(name);
     say(b"\n");
     match exact_table(&book, &sheet, &mut exact) {
-        Outcome::Refused(rule, line) => refused(rule, line),
+        Outcome::Refused(fault, line) => refused(fault.number(), line),
         Outcome::Accepted => table(b"exact", &exact, 1),
     }
 }
@@ -61,7 +61,7 @@ fn outcome(name: &[u8], book: &[u8], sheet: &[u8], exact: &mut [u64], shown: &mu
     say(name);
     say(b"\n");
     match declare(book, sheet, exact, shown) {
-        Outcome::Refused(rule, line) => refused(rule, line),
+        Outcome::Refused(fault, line) => refused(fault.number(), line),
         Outcome::Accepted => table(b"shown", shown, 3),
     }
 }

@@ -8,9 +8,9 @@ use super::print::say;
 use super::print::table;
 use super::print::total;
 use super::print::verdict;
+use desk::answer::Outcome;
 use desk::declare::declare;
 use desk::declare::unit_of;
-use desk::table::Outcome;
 use settle::Settled;
 
 fn judge(exact: &[u64], shown: &[u64], unit: u64, lines: u16) {
@@ -34,7 +34,7 @@ fn two_lines(sheet: &[u8]) {
     let mut shown = [0u64; 12];
     make::fill_book(&mut book);
     match declare(&book, sheet, &mut exact, &mut shown) {
-        Outcome::Refused(rule, line) => refused(rule, line),
+        Outcome::Refused(fault, line) => refused(fault.number(), line),
         Outcome::Accepted => tables(&exact, &shown, unit_of(sheet), 2),
     }
 }
@@ -189,7 +189,7 @@ pub fn longest() {
     fill_lines(&mut sheet);
     say(b"128 lines\n");
     match declare(&book, &sheet, &mut exact, &mut shown) {
-        Outcome::Refused(rule, line) => refused(rule, line),
+        Outcome::Refused(fault, line) => refused(fault.number(), line),
         Outcome::Accepted => longest_tables(&exact, &shown),
     }
 }

@@ -9,7 +9,7 @@ use amounts::scaling::Portion;
 fn reading(name: &[u8], x: f64, most: u32) {
     say(b"reading ");
     say(name);
-    match amounts::reading::thousandths(x, most) {
+    match amounts::reading::parts_of(x, most) {
         Taken::Is(t) => number(t),
         Taken::Over => say(b" over"),
         Taken::Bad => say(b" bad"),

@@ -1,6 +1,6 @@
 -- What tests of many things say, and how a loop makes them.
 use Prim.Native.Nat.{ℕ, zero, suc, _+_, _≤_, _<_}
-use mathlib.Core.Bool.{Bool, true, false, _&&_}
+use mathlib.Core.Bool.{Bool, true, false, _&&_, _||_}
 use mathlib.Core.Path.{_≡_, refl, ap, _∙_}
 use mathlib.Core.List.{List, [], _∷_}
 use mathlib.Core.Logic.{⊎-elim}
@@ -68,3 +68,13 @@ unfolding every
 every-at [] h k = refl
 every-at (x ∷ xs) h zero = from-first x xs h
 every-at (x ∷ xs) h (suc k) = from-at x xs h k
+
+-- ---- what `or` leaves where it does not hold
+
+pub or-left : (a b : Bool) → (a || b) ≡ false → a ≡ false
+or-left true b h = h
+or-left false b h = refl
+
+pub or-right : (a b : Bool) → (a || b) ≡ false → b ≡ false
+or-right true b h = cc
+or-right false b h = h

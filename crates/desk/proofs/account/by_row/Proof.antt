@@ -17,7 +17,7 @@ generated-requires c κs =
     let entry = c .before .before .before .before .before .before .before .before .before .before .before in
     let row-of = c .before .before .before .before .before .before .before .before .row-of in
     let row = c .before .before .before .before .before .before .row in
-    (hit-good _ _ _ (entry .pre .0) (sym (row-of .ensures .eq) ∙ row .given .1) .coefficient, entry .pre .1)
+    record { coefficient = hit-good _ _ _ (entry .pre .book) (sym (row-of .ensures .eq) ∙ row .given .1) .coefficient; activity = entry .pre .activity }
 
 amounts-of-requires : tie.Need-amounts-of-requires
 amounts-of-requires c κs =
@@ -27,7 +27,7 @@ amounts-of-requires c κs =
     let technique-block = c .before .before .before .before .before .before .technique-block in
     let treatment-of = c .before .before .before .before .before .treatment-of in
     let efficiency = c .before .before .before .efficiency in
-    treatment-admissible _ (entry .pre .2) _ _ (hit-good _ _ _ (entry .pre .0) (sym (row-of .ensures .eq) ∙ row .given .1)) _ _ _ _ _ (rw (technique-block .ensures) at (sym (treatment-of .ensures) ∙ efficiency .given .1))
+    treatment-admissible _ (entry .pre .reuse) _ _ (hit-good _ _ _ (entry .pre .book) (sym (row-of .ensures .eq) ∙ row .given .1)) _ _ _ _ _ (rw (technique-block .ensures) at (sym (treatment-of .ensures) ∙ efficiency .given .1))
 
 returns : tie.Need-returns
 returns c =
@@ -40,20 +40,20 @@ returns-2 c =
     let row = c .before .before .before .before .before .before .row in
     let technique-block = c .before .before .before .before .technique-block in
     let treatment-of = c .before .before .before .treatment-of in
-    rw (← row-of .ensures .eq, row .given .1, ← technique-block .ensures, ← treatment-of .ensures, c .before .number .given .1)
+    rw (← row-of .ensures .eq, row .given .1, ← technique-block .ensures, ← treatment-of .ensures, c .before .fault .given .1)
 
 returns-3 : tie.Need-returns-3
 returns-3 c =
-    let row-of = c .before .before .before .before .before .before .before .before .before .before .before .row-of in
-    let row = c .before .before .before .before .before .before .before .before .before .row in
-    let technique-block = c .before .before .before .before .before .before .before .technique-block in
-    let treatment-of = c .before .before .before .before .before .before .treatment-of in
-    let efficiency = c .before .before .before .before .efficiency in
-    let generated = c .before .before .generated in
-    rw (← row-of .ensures .eq, row .given .1, ← technique-block .ensures, ← treatment-of .ensures, efficiency .given .1, ← generated .ensures, c .amounts-of .ensures)
+    let row-of = c .before .before .before .before .before .before .before .before .before .before .before .before .row-of in
+    let row = c .before .before .before .before .before .before .before .before .before .before .row in
+    let technique-block = c .before .before .before .before .before .before .before .before .technique-block in
+    let treatment-of = c .before .before .before .before .before .before .before .treatment-of in
+    let efficiency = c .before .before .before .before .before .efficiency in
+    let generated = c .before .before .before .generated in
+    rw (← row-of .ensures .eq, row .given .1, ← technique-block .ensures, ← treatment-of .ensures, efficiency .given .1, ← generated .ensures, c .row-from .ensures, c .before .amounts-of .ensures)
 
 pub by-row-spec : {M : Type 1} → statement M
 by-row-spec =
     tie.close
-    (tie.spec (λ c κs. search needs) (λ c. search needs) (λ c. search needs) (λ c κs. search needs) treatment-of-requires (λ c. search needs)
-    (λ c. search needs) generated-requires amounts-of-requires returns returns-2 returns-3)
+    (tie.spec (λ c κs. search needs) (λ c. search needs) (λ c. search needs) (λ c κs. search needs) treatment-of-requires
+    (λ c. search needs) (λ c. search needs) generated-requires amounts-of-requires (λ c κs. search needs) returns returns-2 returns-3)

@@ -1,19 +1,21 @@
 -- `desk::account::generated` meets its contract. Assumes nothing.
 use borrow.Author.Tests.{eq-eqb, ne-eqb}
 use Rattle.little.proofs.LawNumber.{product-fits}
+use Rattle.desk.specs.Book.{mostCoefficient}
+use Rattle.desk.specs.Line.{mostKilograms}
 use Rattle.desk.specs.Account.{generatedOf}
 use Rattle.desk.proofs.account.generated.Statement.{statement}
 use Rattle.desk.proofs.account.generated.Tie as tie
 
 mul-result : tie.Need-mul-result
 mul-result c =
-    let entry = c .before .before .before .before in
-    product-fits 100_000_000 1_000_000_000 (entry .pre .0) (entry .pre .1 .0) tt
+    let small = c .before .before .before .before .pre in
+    product-fits mostCoefficient mostKilograms (small .coefficient) (small .activity .product) tt
 
 mul-result-2 : tie.Need-mul-result-2
 mul-result-2 c =
-    let entry = c .before .before .before .before in
-    product-fits 100_000_000 1_000_000_000 (entry .pre .0) (entry .pre .1 .1) tt
+    let small = c .before .before .before .before .pre in
+    product-fits mostCoefficient mostKilograms (small .coefficient) (small .activity .material) tt
 
 returns : tie.Need-returns
 unfolding generatedOf

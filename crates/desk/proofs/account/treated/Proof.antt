@@ -11,7 +11,7 @@ returns c =
 returns-2 : tie.Need-returns-2
 returns-2 c =
     let share-of = c .before .before .before .share-of in
-    rw (← share-of .ensures, c .before .number .given .1)
+    rw (← share-of .ensures, c .before .fault .given .1)
 
 pub treated-spec : {M : Type 1} → statement M
 treated-spec = tie.close (tie.spec (λ c κs. search needs) (λ c. search needs) (λ c. search needs) returns returns-2)

@@ -37,7 +37,7 @@ returns-3 c =
     let j = c .before .before .before .before .before .before .j in
     let goes-with = c .before .before .before .before .goes-with in
     let if2 = c .before .before .before .if2 in
-    rw (ne-eqb _ _ (if1 .left), ← technique-index .ensures .eq, j .given .1, ← goes-with .ensures, if2 .taken, ← c .before .efficiency-at .ensures) (c .treated .ensures)
+    rw (ne-eqb _ _ (if1 .left), ← technique-index .ensures .eq, j .given .1, ← goes-with .ensures, if2 .taken, ← c .before .efficiency-at .ensures .eq) (c .treated .ensures)
 
 returns-4 : tie.Need-returns-4
 unfolding treatmentOf

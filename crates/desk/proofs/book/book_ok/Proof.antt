@@ -10,12 +10,12 @@ use Rattle.desk.proofs.book.book_ok.Tie as tie
 fill-runs-requires : tie.Need-fill-runs-requires
 fill-runs-requires c κs =
     let few = techniques-few _ (sym (c .before .before .before .before .book-header-ok .ensures) ∙ c .before .before .before .if1 .taken) in
-    let size = c .before .u16-at .ensures .eq in
+    let size = c .before .technique-count .ensures .eq in
     (omega arith, omega arith)
 
 rows-ok-requires : tie.Need-rows-ok-requires
 rows-ok-requires c κs =
-    rw (← c .before .before .before .before .before .technique-block .ensures, ← c .before .before .before .before .u16-at .ensures .eq) (c .before .before .fill-runs .ensures)
+    rw (← c .before .before .before .before .before .technique-block .ensures, ← c .before .before .before .before .technique-count .ensures .eq) (c .before .before .fill-runs .ensures)
 
 returns : tie.Need-returns
 unfolding bookOk
@@ -28,13 +28,5 @@ returns-2 c = rw (← c .before .book-header-ok .ensures, c .if1 .left)
 pub book-ok-spec : {M : Type 1} → statement M
 book-ok-spec =
     tie.close
-    (tie.spec
-    (λ c κs. search needs)
-    (λ c κs. search needs)
-    (λ c κs. search needs)
-    (λ c. search needs)
-    fill-runs-requires
-    (λ c. search needs)
-    rows-ok-requires
-    returns
-    returns-2)
+    (tie.spec (λ c κs. search needs) (λ c κs. search needs) (λ c κs. search needs) (λ c. search needs) fill-runs-requires
+    (λ c. search needs) rows-ok-requires returns returns-2)

@@ -14,13 +14,13 @@ coefficient-at-requires c κs = (search needs, sym (c .before .before .before .f
 list-ok-requires : tie.Need-list-ok-requires
 list-ok-requires c κs =
     let z = c .before .before .before .before .before .before .before .before .before in
-    (omega (arith, z .pre .1 .long, c .before .before .before .before .before .before .u16-at .ensures .eq), search needs, search needs)
+    (omega (arith, z .pre .1 .long, c .before .before .before .before .before .before .technique-count .ensures .eq), search needs, search needs)
 
 returns : tie.Need-returns
 unfolding every rowOk
 returns c =
     let z = c .before .before .before .before .before .before .before .before .before .before .before in
-    let size = c .before .before .before .before .before .before .before .before .u16-at in
+    let size = c .before .before .before .before .before .before .before .before .technique-count in
     rw (← c .before .before .before .before .before .before .before .row-start .ensures .eq, ← c .before .before .before .before .before .before .fields-ok .ensures, c .before .before .before .before .before .if1 .taken) (cc (listed _ _ _ _ _ _ _ (size .ensures .eq) (z .pre .1) (c .before .list-ok .ensures)))
 
 returns-2 : tie.Need-returns-2
@@ -30,16 +30,5 @@ returns-2 c = rw (← c .before .before .row-start .ensures .eq, ← c .before .
 pub row-ok-spec : {M : Type 1} → statement M
 row-ok-spec =
     tie.close
-    (tie.spec
-    (λ c κs. search needs)
-    (λ c κs. search needs)
-    (λ c κs. search needs)
-    (λ c. search needs)
-    (λ c κs. search needs)
-    (λ c. search needs)
-    (λ c κs. search needs)
-    coefficient-at-requires
-    list-ok-requires
-    (λ c κs. search needs)
-    returns
-    returns-2)
+    (tie.spec (λ c κs. search needs) (λ c κs. search needs) (λ c κs. search needs) (λ c. search needs) (λ c κs. search needs)
+    (λ c. search needs) (λ c κs. search needs) coefficient-at-requires list-ok-requires (λ c κs. search needs) returns returns-2)

@@ -26,13 +26,5 @@ returns c = rw (all-done _ (c .before .loop .inv) (c .loop-test .left)) (cc)
 pub rows-ok-spec : {M : Type 1} → statement M
 rows-ok-spec =
     tie.close
-    (tie.spec
-    Inv-loop
-    μ-loop
-    (λ c κs. search needs)
-    loop-holds
-    (λ c κs. search needs)
-    (λ c. search needs)
-    (λ c. search needs)
-    loop-again
-    returns)
+    (tie.spec Inv-loop μ-loop (λ c κs. search needs) loop-holds (λ c κs. search needs) (λ c. search needs) (λ c. search needs)
+    loop-again returns)

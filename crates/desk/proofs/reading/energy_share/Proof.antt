@@ -4,56 +4,56 @@ use borrow.Author.Needs.{needs}
 use Rattle.little.proofs.LawNumber.{product-fits}
 use Rattle.amounts.proofs.LawReading.{taken-most}
 use Rattle.desk.specs.Reading.{energyShare}
-use Rattle.desk.proofs.LawReading.{nine, taken}
+use Rattle.desk.proofs.LawReading.{not-taken, taken}
 use Rattle.desk.proofs.reading.energy_share.Statement.{statement}
 use Rattle.desk.proofs.reading.energy_share.Tie as tie
 
 returns : tie.Need-returns
 unfolding energyShare
-returns c = rw (← c .before .thousandths .ensures) (nine (c .before .thousandths .result) _ (c .match .keys2))
+returns c = rw (← c .before .parts-of .ensures) (not-taken (c .before .parts-of .result) _ (c .match .keys2))
 
 returns-2 : tie.Need-returns-2
 unfolding energyShare
 returns-2 c =
-    let thousandths = c .before .before .before .before .before .thousandths in
+    let thousandths = c .before .before .before .before .before .parts-of in
     let kwh = c .before .before .before .kwh in
-    rw (← thousandths .ensures, taken _ _ (kwh .given .1), ← c .before .thousandths2 .ensures) (nine (c .before .thousandths2 .result) _ (c .match2 .keys2))
+    rw (← thousandths .ensures, taken _ _ (kwh .given .1), ← c .before .parts-of2 .ensures) (not-taken (c .before .parts-of2 .result) _ (c .match2 .keys2))
 
 returns-3 : tie.Need-returns-3
 unfolding energyShare
 returns-3 c =
-    let thousandths = c .before .before .before .before .before .before .before .before .before .thousandths in
+    let thousandths = c .before .before .before .before .before .before .before .before .before .parts-of in
     let kwh = c .before .before .before .before .before .before .before .kwh in
-    let thousandths2 = c .before .before .before .before .before .thousandths2 in
+    let thousandths2 = c .before .before .before .before .before .parts-of2 in
     let kw = c .before .before .before .kw in
-    rw (← thousandths .ensures, taken _ _ (kwh .given .1), ← thousandths2 .ensures, taken _ _ (kw .given .1), ← c .before .thousandths3 .ensures) (nine (c .before .thousandths3 .result) _ (c .match3 .keys2))
+    rw (← thousandths .ensures, taken _ _ (kwh .given .1), ← thousandths2 .ensures, taken _ _ (kw .given .1), ← c .before .parts-of3 .ensures) (not-taken (c .before .parts-of3 .result) _ (c .match3 .keys2))
 
 mul-ratio : tie.Need-mul-ratio
 mul-ratio c =
-    let thousandths = c .before .before .before .before .before .before .before .before .before .before .before .thousandths in
+    let thousandths = c .before .before .before .before .before .before .before .before .before .before .before .parts-of in
     let kwh = c .before .before .before .before .before .before .before .before .before .kwh in
     product-fits 10_000_000_000 1000 (taken-most 1000 10_000_000 _ _ (sym (thousandths .ensures) ∙ kwh .given .1)) (search needs) tt
 
 mul-ratio-2 : tie.Need-mul-ratio-2
 mul-ratio-2 c =
-    let thousandths2 = c .before .before .before .before .before .before .before .thousandths2 in
+    let thousandths2 = c .before .before .before .before .before .before .before .parts-of2 in
     let kw = c .before .before .before .before .before .kw in
-    let thousandths3 = c .before .before .before .thousandths3 in
+    let thousandths3 = c .before .before .before .parts-of3 in
     product-fits 10_000_000 8_784_000 (taken-most 1000 10000 _ _ (sym (thousandths2 .ensures) ∙ kw .given .1)) (taken-most 1000 8784 _ _ (sym (thousandths3 .ensures) ∙ c .before .hours .given .1)) tt
 
 returns-4 : tie.Need-returns-4
 unfolding energyShare
 returns-4 c =
-    let thousandths = c .before .before .before .before .before .before .before .before .before .before .before .before .thousandths in
+    let thousandths = c .before .before .before .before .before .before .before .before .before .before .before .before .parts-of in
     let kwh = c .before .before .before .before .before .before .before .before .before .before .kwh in
-    let thousandths2 = c .before .before .before .before .before .before .before .before .thousandths2 in
+    let thousandths2 = c .before .before .before .before .before .before .before .before .parts-of2 in
     let kw = c .before .before .before .before .before .before .kw in
-    let thousandths3 = c .before .before .before .before .thousandths3 in
+    let thousandths3 = c .before .before .before .before .parts-of3 in
     let hours = c .before .before .hours in
     rw (← thousandths .ensures, taken _ _ (kwh .given .1), ← thousandths2 .ensures, taken _ _ (kw .given .1), ← thousandths3 .ensures, taken _ _ (hours .given .1)) (c .ratio .ensures)
 
 pub energy-share-spec : {M : Type 1} → statement M
 energy-share-spec =
     tie.close
-    (tie.spec (λ c κs. search needs) (λ c. search needs) returns (λ c κs. search needs) (λ c. search needs) returns-2 (λ c κs. search needs)
-    (λ c. search needs) returns-3 mul-ratio mul-ratio-2 (λ c κs. search needs) returns-4)
+    (tie.spec (λ c κs. search needs) (λ c. search needs) returns (λ c κs. search needs) (λ c. search needs) returns-2
+    (λ c κs. search needs) (λ c. search needs) returns-3 mul-ratio mul-ratio-2 (λ c κs. search needs) returns-4)

@@ -8,7 +8,7 @@ use Rattle.desk.proofs.row.index_of.Tie as tie
 
 returns : tie.Need-returns
 returns c =
-    let n = c .before .before .before .u16-at .ensures in
+    let n = c .before .before .before .row-count .ensures in
     let z = c .before .before .before .before .before .before in
     let below = rw (n .eq) at (c .before .before .if1 .taken) in
     record {
@@ -18,14 +18,14 @@ returns c =
 
 returns-2 : tie.Need-returns-2
 returns-2 c =
-    let n = c .before .before .before .u16-at .ensures in
+    let n = c .before .before .before .row-count .ensures in
     let z = c .before .before .before .before .before .before in
     let below = rw (n .eq) at (c .before .before .if1 .taken) in
     record { eq = cut-other _ (z .pre) _ _ (c .before .before .before .before .rows-before .ensures) below (sym (c .before .row-has .ensures) ∙ c .if2 .left); below = tt }
 
 returns-3 : tie.Need-returns-3
 returns-3 c =
-    let past = rw (c .before .u16-at .ensures .eq) at (c .if1 .left) in
+    let past = rw (c .before .row-count .ensures .eq) at (c .if1 .left) in
     record { eq = cut-none _ (c .before .before .before .before .pre) _ _ (c .before .before .rows-before .ensures) past; below = tt }
 
 pub index-of-spec : {M : Type 1} → statement M

@@ -1,5 +1,5 @@
 -- `desk::row::row_before` meets its contract. Assumes nothing.
-use Rattle.desk.specs.Row.{rowBefore}
+use Rattle.desk.specs.Inner.{rowBefore}
 use borrow.Author.Needs.{needs}
 use Rattle.desk.proofs.row.row_before.Statement.{statement}
 use Rattle.desk.proofs.row.row_before.Tie as tie

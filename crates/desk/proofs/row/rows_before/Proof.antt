@@ -3,7 +3,7 @@ use Prim.Native.Nat.{_+_, _-_, _/_, _<_}
 use mathlib.Core.Path.{sym, _∙_}
 use native.Mathlib.Omega.{arith}
 use borrow.Author.Needs.{needs}
-use Rattle.desk.specs.Row.{Cut}
+use Rattle.desk.specs.Inner.{Cut}
 use Rattle.desk.proofs.LawOrder.{cut-start, cut-low, cut-high, cut-met}
 use Rattle.desk.proofs.row.rows_before.Statement.{statement}
 use Rattle.desk.proofs.row.rows_before.Tie as tie
@@ -15,7 +15,7 @@ abbrev μ-loop : tie.MeasureT-loop
 μ-loop b k low₀ high₀ low high = high - low
 
 loop-holds : tie.Need-loop-holds Inv-loop μ-loop
-loop-holds c = (rw (c .u16-at .ensures .eq) (cut-start _ (c .before .before .pre) _), c .u16-at .ensures .small)
+loop-holds c = (rw (c .row-count .ensures .eq) (cut-start _ (c .before .before .pre) _), c .row-count .ensures .small)
 
 loop-again : tie.Need-loop-again Inv-loop μ-loop
 loop-again c =
@@ -35,17 +35,5 @@ returns c = cut-met _ _ _ _ (c .before .loop .inv .0) (c .loop-test .left)
 pub rows-before-spec : {M : Type 1} → statement M
 rows-before-spec =
     tie.close
-    (tie.spec
-    Inv-loop
-    μ-loop
-    (λ c κs. search needs)
-    loop-holds
-    (λ c. search needs)
-    (λ c. search needs)
-    (λ c κs. search needs)
-    (λ c. search needs)
-    (λ c. search needs)
-    loop-again
-    (λ c. search needs)
-    loop-again-2
-    returns)
+    (tie.spec Inv-loop μ-loop (λ c κs. search needs) loop-holds (λ c. search needs) (λ c. search needs) (λ c κs. search needs)
+    (λ c. search needs) (λ c. search needs) loop-again (λ c. search needs) loop-again-2 returns)

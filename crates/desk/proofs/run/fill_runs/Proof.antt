@@ -4,7 +4,7 @@ use mathlib.Core.Path.{_≡_, _∙_}
 use native.Mathlib.Omega.{arith}
 use borrow.Author.Needs.{needs}
 use lib.ListN.{length, length-set}
-use Rattle.desk.specs.Run.{runOf}
+use Rattle.desk.specs.InnerRun.{runOf}
 use Rattle.desk.proofs.LawRun.{run-most, run-next, run-none, Filled, filled-next}
 use Rattle.desk.proofs.run.fill_runs.Statement.{statement}
 use Rattle.desk.proofs.run.fill_runs.Tie as tie
@@ -47,16 +47,5 @@ returns c = record { long = c .before .loop .inv .3; at = λ k l. c .before .loo
 pub fill-runs-spec : {M : Type 1} → statement M
 fill-runs-spec =
     tie.close
-    (tie.spec
-    Inv-loop
-    μ-loop
-    loop-holds
-    (λ c. search needs)
-    run-before-requires
-    cast-runs
-    (λ c. search needs)
-    (λ c. search needs)
-    (λ c. search needs)
-    loop-again
-    (λ c. c .before .loop .inv .2)
-    returns)
+    (tie.spec Inv-loop μ-loop loop-holds (λ c. search needs) run-before-requires cast-runs (λ c. search needs) (λ c. search needs)
+    (λ c. search needs) loop-again (λ c. search needs) returns)

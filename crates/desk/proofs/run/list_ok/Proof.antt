@@ -2,7 +2,7 @@
 use native.Mathlib.Omega.{arith}
 use borrow.Author.Needs.{needs}
 use borrow.Author.Tests.{eq-eqb, ne-eqb, le-leb, lt-leb}
-use Rattle.desk.specs.Run.{listOk}
+use Rattle.desk.specs.InnerRun.{listOk}
 use Rattle.desk.proofs.run.list_ok.Statement.{statement}
 use Rattle.desk.proofs.run.list_ok.Tie as tie
 
@@ -22,4 +22,6 @@ unfolding listOk
 returns-3 c = rw (ne-eqb _ _ (c .before .if1 .left), lt-leb _ _ (c .if2 .left))
 
 pub list-ok-spec : {M : Type 1} → statement M
-list-ok-spec = tie.close (tie.spec returns (λ c. search needs) (λ c. search needs) (λ c. search needs) cast-result returns-2 returns-3)
+list-ok-spec =
+    tie.close
+    (tie.spec returns (λ c. search needs) (λ c. search needs) (λ c. search needs) cast-result returns-2 returns-3)

@@ -9,31 +9,29 @@ use Rattle.desk.proofs.table.exact_table.Tie as tie
 
 fill-requires : tie.Need-fill-requires
 fill-requires c κs =
-    let before-lines = c .before .before .before .before .before-lines in
-    let enum-told = c .before .before .enum-told in
-    let g = ready _ _ _ (sym (before-lines .ensures) ∙ enum-told .given .1) in
-    (omega (arith, lines-few _ (g .sheet)), omega (arith, g .fits), g .book)
+    let g = ready _ _ (sym (c .before .before .before .before .by-files .ensures) ∙ c .before .before .enum-told .given .1) in
+    record { few = omega (arith, lines-few _ (g .sheet)); fits = omega (arith, g .fits); book = g .book }
 
 returns : tie.Need-returns
 unfolding answerOf
 returns c =
-    let before-lines = c .before .before .before .before .before .before .before .before-lines in
-    let number = c .before .before .before .before .before .number in
+    let by-files = c .before .before .before .before .before .before .before .by-files in
+    let number = c .before .before .before .before .before .fault in
     let clear = c .before .before .clear in
     record {
-      answer = rw (← before-lines .ensures, number .given .1);
+      answer = rw (← by-files .ensures, number .given .1);
       table = refused-cells _ _ _ _ _ _ (clear .ensures);
     }
 
 returns-2 : tie.Need-returns-2
 unfolding answerOf
 returns-2 c =
-    let before-lines = c .before .before .before .before .before .before .before .before-lines in
+    let by-files = c .before .before .before .before .before .before .before .by-files in
     let enum-told = c .before .before .before .before .before .enum-told in
-    let u16-at = c .before .before .before .before .u16-at in
+    let line-count = c .before .before .before .before .line-count in
     let fill = c .before .before .fill in
-    let f = rw (u16-at .ensures .eq) at (fill .ensures) in
-    record { answer = rw (← before-lines .ensures, enum-told .given .1) (f .answer); table = f .table }
+    let f = rw (line-count .ensures .eq) at (fill .ensures) in
+    record { answer = rw (← by-files .ensures, enum-told .given .1) (f .answer); table = f .table }
 
 pub exact-table-spec : {M : Type 1} → statement M
 exact-table-spec =

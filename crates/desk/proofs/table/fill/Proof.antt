@@ -6,9 +6,11 @@ use native.Mathlib.Omega.{arith}
 use lib.ListN.{length, drop, replicate}
 use borrow.Author.Needs.{needs}
 use denote.Ref.{now}
-use Rattle.desk.specs.declared.table.Outcome.the-variants.{Accepted}
-use Rattle.desk.specs.Table.{width, rowCells, rows, total, byLines}
-use Rattle.desk.specs.Tally.{sums}
+use Rattle.desk.specs.declared.answer.Outcome.the-variants.{Accepted}
+use Rattle.desk.specs.Table.{rows, total, byLines}
+use Rattle.desk.specs.Cells.{width, cellsOf}
+use Rattle.desk.specs.Lent.{lent}
+use Rattle.desk.specs.declared.tally.Tally.{Tally}
 use Rattle.desk.specs.Account.{lineOutcome}
 use Rattle.desk.proofs.LawAccount.{line-balances}
 use Rattle.desk.proofs.LawTable.{rows-step, total-step, answer-step, answer-refused, refused-cells, accepted-cells, tally-fits}
@@ -19,9 +21,9 @@ abbrev Inv-loop : tie.InvT-loop
 Inv-loop b s lines exact₀ tally₀ i₀ exact tally i =
     (i ≤ lines)
     × (length exact ≡ length exact₀)
-    × (exact ≡ rows i (lineOutcome b s) ++ drop (width * i) exact₀)
-    × (tally ≡ total i (lineOutcome b s))
-    × (byLines i (lineOutcome b s) ≡ Accepted)
+    × (exact ≡ rows i (lineOutcome (lent b s)) ++ drop (width * i) exact₀)
+    × (tally ≡ total i (lineOutcome (lent b s)))
+    × (byLines i (lineOutcome (lent b s)) ≡ Accepted)
 
 abbrev μ-loop : tie.MeasureT-loop
 μ-loop b s lines exact₀ tally₀ i₀ exact tally i = lines - i
@@ -35,10 +37,10 @@ returns c =
     let loop = c .before .before .before .before .before .before .before .before .before .loop in
     let loop-test = c .before .before .before .before .before .before .before .before .loop-test in
     let line-outcome = c .before .before .before .before .before .before .before .line-outcome in
-    let number = c .before .before .before .before .before .number in
+    let fault = c .before .before .before .before .before .fault in
     let clear = c .before .before .clear in
     record {
-      answer = answer-refused _ _ _ _ (sym (line-outcome .ensures) ∙ number .given .1) (loop .inv .4) (loop-test .taken);
+      answer = answer-refused _ _ _ (sym (line-outcome .ensures) ∙ fault .given .1) (loop .inv .4) (loop-test .taken);
       table = refused-cells _ _ _ _ _ _ (clear .ensures ∙ ap (λ (m : ℕ). replicate m 0) (loop .inv .1));
     }
 
@@ -47,35 +49,34 @@ add-requires c κs =
     let entry = c .before .before .before .before .before .before .before .before .before .before .before .before .before .before in
     let loop = c .before .before .before .before .before .before .before .before .before .loop in
     let line-outcome = c .before .before .before .before .before .before .before .line-outcome in
-    let a = c .before .before .before .before .before .a in
-    tally-fits _ (line-balances (now (entry .args .b)) (now (entry .args .s)) (entry .pre .2)) _ (omega arith) (loop .inv .3) (sym (line-outcome .ensures) ∙ a .given .1)
+    let row = c .before .before .before .before .before .row in
+    tally-fits _ (line-balances (lent (now (entry .args .b)) (now (entry .args .s))) (entry .pre .book)) _ (omega arith) (loop .inv .3) (sym (line-outcome .ensures) ∙ row .given .1)
 
 loop-again : tie.Need-loop-again Inv-loop μ-loop
 loop-again c =
     let loop = c .before .before .before .before .before .before .before .before .before .before .loop in
     let line-outcome = c .before .before .before .before .before .before .before .before .line-outcome in
-    let a = c .before .before .before .before .before .before .a in
+    let row = c .before .before .before .before .before .before .row in
     let write-row = c .before .before .before .write-row in
-    let e = sym (line-outcome .ensures) ∙ a .given .1 in
+    let e = sym (line-outcome .ensures) ∙ row .given .1 in
     (search needs, search needs, rows-step _ _ e _ (loop .inv .2) (write-row .ensures), total-step _ _ e (loop .inv .3) (c .add .ensures), answer-step _ _ e (loop .inv .4))
 
 returns-2 : tie.Need-returns-2 Inv-loop μ-loop
 returns-2 c =
-    let entry = c .before .before .before .before .before .before .before .before .before .before .before in
-    let loop = c .before .before .before .before .before .before .loop in
-    let sums-call = c .before .before .before .sums in
+    let entry = c .before .before .before .before .before .before .before .before .before .before in
+    let loop = c .before .before .before .before .before .loop in
     let write-row2 = c .before .before .write-row2 in
     let e : loop .i ≡ entry .args .lines = omega arith in
     record {
       answer = sym (rw e at (loop .inv .4));
-      table = accepted-cells _ _ _ _ _ (rw e at (loop .inv .2)) (write-row2 .ensures ∙ ap rowCells (sums-call .ensures ∙ ap sums (rw e at (loop .inv .3))));
+      table = accepted-cells _ _ _ _ _ (rw e at (loop .inv .2)) (write-row2 .ensures ∙ ap (λ (t : Tally). cellsOf (t .sums)) (rw e at (loop .inv .3)));
     }
 
 pub fill-spec : {M : Type 1} → statement M
 fill-spec =
     tie.close
     (tie.spec Inv-loop μ-loop (λ c κs. search needs) loop-holds (λ c κs. search needs) (λ c. search needs) (λ c κs. search needs)
-    (λ c. search needs) (λ c. search needs) returns (λ c. search needs) (λ c. search needs) (λ c. search needs) (λ c. search needs)
-    (λ c. search needs) (λ c. search needs) (λ c. search needs) (λ c κs. search needs) add-requires (λ c. search needs) (λ c. search needs)
-    loop-again (λ c. search needs) (λ c. search needs) (λ c. search needs) (λ c. search needs) (λ c. search needs) (λ c. search needs)
-    (λ c κs. search needs) (λ c κs. search needs) (λ c. search needs) returns-2)
+    (λ c. search needs) (λ c. search needs) (λ c. search needs) returns (λ c. search needs) (λ c. search needs) (λ c. search needs)
+    (λ c. search needs) (λ c. search needs) (λ c. search needs) (λ c. search needs) (λ c κs. search needs) add-requires
+    (λ c. search needs) (λ c. search needs) loop-again (λ c. search needs) (λ c. search needs) (λ c. search needs) (λ c. search needs)
+    (λ c. search needs) (λ c. search needs) (λ c κs. search needs) (λ c. search needs) returns-2)

@@ -26,7 +26,7 @@ returns c =
     let loop = c .before .before .before .loop in
     let loop-test = c .before .before .loop-test in
     record {
-      eq = first-here _ _ _ (loop .inv .1) (eq-eqb _ _ (sym (c .before .u16-at .ensures .eq) ∙ c .if1 .taken)) (loop-test .taken);
+      eq = first-here _ _ _ (loop .inv .1) (eq-eqb _ _ (sym (c .before .code-at .ensures .eq) ∙ c .if1 .taken)) (loop-test .taken);
       below = omega arith;
     }
 
@@ -34,7 +34,7 @@ loop-again : tie.Need-loop-again Inv-loop μ-loop
 unfolding techniqueHas
 loop-again c =
     let loop = c .before .before .before .loop in
-    (search needs, first-more _ _ (loop .inv .1) (ne-eqb _ _ (λ e. c .if1 .left (c .before .u16-at .ensures .eq ∙ e))))
+    (search needs, first-more _ _ (loop .inv .1) (ne-eqb _ _ (λ e. c .if1 .left (c .before .code-at .ensures .eq ∙ e))))
 
 returns-2 : tie.Need-returns-2 Inv-loop μ-loop
 unfolding techniqueIndex
@@ -43,5 +43,5 @@ returns-2 c = record { eq = first-done _ (c .before .loop .inv) (c .loop-test .l
 pub technique-index-spec : {M : Type 1} → statement M
 technique-index-spec =
     tie.close
-    (tie.spec Inv-loop μ-loop loop-holds (λ c. search needs) (λ c. search needs) (λ c κs. search needs) returns (λ c. search needs)
-    (λ c. search needs) loop-again returns-2)
+    (tie.spec Inv-loop μ-loop loop-holds (λ c. search needs) (λ c κs. search needs) returns (λ c. search needs) (λ c. search needs)
+    loop-again returns-2)

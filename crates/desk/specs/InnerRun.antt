@@ -5,18 +5,19 @@ use mathlib.Core.Bool.{Bool, _&&_, _||_, not, cond}
 use mathlib.Core.List.{List}
 use lib.Dec.{leb, ltb, eqb}
 use lib.ListN.{getD, length}
+use Rattle.amounts.specs.Line.{wholeShare}
 use Rattle.desk.specs.Book.{techniqueCode, techniqueEfficiency}
 
--- technique k by itself: its code is not 0, and its efficiency is at most 1000
-unfoldable pub lawful : List ℕ → ℕ → Bool
-lawful t k = not (eqb (techniqueCode t k) 0) && leb (techniqueEfficiency t k) 1000
+-- technique k by itself: its code is not 0, and its efficiency is at most the whole
+unfoldable pub lawful : (t : List ℕ) (k : ℕ) → Bool
+lawful t k = not (eqb (techniqueCode t k) 0) && leb (techniqueEfficiency t k) wholeShare
 
 -- the run from k on, where the one from k + 1 on has `next` techniques
-unfoldable pub runBefore : List ℕ → ℕ → ℕ → ℕ
+unfoldable pub runBefore : (t : List ℕ) (k next : ℕ) → ℕ
 runBefore t k next = cond (lawful t k) (cond (ltb (techniqueCode t k) (techniqueCode t (k + 1))) (next + 1) 1) 0
 
 -- how many of the n techniques from k on are lawful, with codes that strictly rise
-unfoldable pub runOf : List ℕ → ℕ → ℕ → ℕ
+unfoldable pub runOf : (t : List ℕ) (n k : ℕ) → ℕ
 runOf t zero k = 0
 runOf t (suc n) k = runBefore t k (runOf t n (k + 1))
 
@@ -26,5 +27,5 @@ pub record Runs (t : List ℕ) (size : ℕ) (runs : List ℕ) : Type 0 where
   pub at : (k : ℕ) → k < size → getD runs k 0 ≡ runOf t (size - k) k
 
 -- a row's list by the run from its first technique on; of an empty list the first index is not looked at
-unfoldable pub listOk : List ℕ → ℕ → ℕ → ℕ → Bool
+unfoldable pub listOk : (runs : List ℕ) (size first count : ℕ) → Bool
 listOk runs size first count = eqb count 0 || (leb (first + count) size && leb count (getD runs first 0))

@@ -1,0 +1,14 @@
+-- `desk::cells::write_row` meets its contract. Assumes nothing.
+use borrow.Author.Needs.{needs}
+use denote.Ref.{now}
+use Rattle.desk.proofs.LawTable.{four-sets}
+use Rattle.desk.proofs.cells.write_row.Statement.{statement}
+use Rattle.desk.proofs.cells.write_row.Tie as tie
+
+returns : tie.Need-returns
+returns c = four-sets (now (c .args .cells)) _ _ _ _ (c .pre)
+
+pub write-row-spec : {M : Type 1} → statement M
+write-row-spec =
+    tie.close
+    (tie.spec (λ c. search needs) (λ c. search needs) (λ c. search needs) (λ c. search needs) (λ c. search needs) returns)

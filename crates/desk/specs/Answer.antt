@@ -1,0 +1,38 @@
+-- "Refusal numbers": the desk's answer by the paper's number and line.
+use Prim.Native.Nat.{ℕ}
+use Rattle.desk.specs.declared.answer.FileFault.{FileFault}
+use Rattle.desk.specs.declared.answer.FileFault.the-variants.{BookMalformed, SheetMalformed, ResultTooShort}
+use Rattle.desk.specs.declared.answer.LineFault.{LineFault}
+use Rattle.desk.specs.declared.answer.LineFault.the-variants as line
+use Rattle.desk.specs.declared.answer.Fault.{Fault}
+use Rattle.desk.specs.declared.answer.Fault.the-variants.{File, Line}
+use Rattle.desk.specs.declared.answer.Outcome.{Outcome}
+use Rattle.desk.specs.declared.answer.Outcome.the-variants.{Accepted, Refused}
+
+abbrev pub fileRule : FileFault → ℕ
+fileRule BookMalformed = 1
+fileRule SheetMalformed = 2
+fileRule ResultTooShort = 3
+
+abbrev pub lineRule : LineFault → ℕ
+lineRule line.ActivityTooLarge = 4
+lineRule line.ReuseTooLarge = 5
+lineRule line.NoRow = 6
+lineRule line.NoTechnique = 7
+lineRule line.WrongKind = 8
+lineRule line.BadReading = 9
+lineRule line.ZeroDivisor = 10
+lineRule line.KAboveOne = 11
+
+abbrev pub ruleNumber : Fault → ℕ
+ruleNumber (File fault) = fileRule fault
+ruleNumber (Line fault) = lineRule fault
+
+-- where nothing is refused both are 0
+abbrev pub answerNumber : Outcome → ℕ
+answerNumber Accepted = 0
+answerNumber (Refused fault line) = ruleNumber fault
+
+abbrev pub answerLine : Outcome → ℕ
+answerLine Accepted = 0
+answerLine (Refused fault line) = line

@@ -1,0 +1,127 @@
+-- What private functions ask and answer, beside what a promise says: bounds, and the halves of a proof. Nothing here is needed to read a promise.
+use Prim.Native.Nat.{ℕ, _+_, _≤_, _<_}
+use mathlib.Core.Path.{_≡_}
+use mathlib.Core.Bool.{Bool, true, false}
+use mathlib.Core.List.{List, _++_}
+use lib.ListN.{length, take, drop}
+use Rattle.amounts.specs.Line.{wholeShare}
+use Rattle.settle.specs.Shown.{at}
+use Rattle.settle.specs.Table.{Good}
+use Rattle.settle.specs.Step.{shownTable}
+use Rattle.desk.specs.Key.{keyLess}
+use Rattle.desk.specs.Book.{rowCount, rowStart, keyAt, bookOk, mostCoefficient}
+use Rattle.desk.specs.Sheet.{lineCount, sheetOk, mostLines}
+use Rattle.desk.specs.Line.{mostKilograms}
+use Rattle.desk.specs.Lent.{Lent}
+use Rattle.desk.specs.Cells.{width, tableSize, cellsOf}
+use Rattle.desk.specs.Account.{lineOutcome}
+use Rattle.desk.specs.Table.{byLines, cellsAfter}
+use Rattle.desk.specs.Declare.{BothAfter}
+use Rattle.desk.specs.declared.key.Key.{Key}
+use Rattle.desk.specs.declared.line.Line.{Line}
+use Rattle.desk.specs.declared.row.Row.{Row}
+use Rattle.desk.specs.declared.row.RowSearch.{RowSearch}
+use Rattle.desk.specs.declared.row.RowSearch.the-variants.{Hit, Miss}
+use Rattle.desk.specs.declared.account.LineOutcome.{LineOutcome}
+use Rattle.desk.specs.declared.answer.Outcome.{Outcome}
+use Rattle.desk.specs.declared.cells.TableRow.{TableRow}
+use Rattle.desk.specs.declared.tally.Tally.{Tally}
+
+-- ---- how far reads go
+
+-- what a u16 holds is below it, and what a u32 holds
+abbrev pub counted : ℕ
+counted = 65536
+
+abbrev pub u32Range : ℕ
+u32Range = 4294967296
+
+-- rows and lines start below this: an offset u32, and at most as many of them as a u16 counts
+abbrev pub farthest : ℕ
+farthest = 8_589_934_592
+
+-- ---- the row search
+
+-- row i stands before this key
+unfoldable pub rowBefore : (b : List ℕ) (k : Key) (i : ℕ) → Bool
+rowBefore b k i = keyLess (keyAt b (rowStart b i)) k
+
+-- the rows below `low` stand before the key, and none from `high` on does
+pub record Cut (b : List ℕ) (k : Key) (low high : ℕ) : Type 0 where
+  pub order : low ≤ high
+  pub within : high ≤ rowCount b
+  pub below : (i : ℕ) → i < low → rowBefore b k i ≡ true
+  pub above : (i : ℕ) → high ≤ i → i < rowCount b → rowBefore b k i ≡ false
+
+-- a row's list lies below 2 ^ 17
+abbrev pub SmallRow : Row → Type 0
+SmallRow row = (row .first < counted) × (row .techniques < counted)
+
+pub record ReadsRow (r meant : Row) : Type 0 where
+  pub eq : r ≡ meant
+  pub small : SmallRow r
+
+abbrev pub SmallHit : RowSearch → Type 0
+SmallHit (Hit row) = SmallRow row
+SmallHit Miss = Unit
+
+pub record FindsRow (r meant : RowSearch) : Type 0 where
+  pub eq : r ≡ meant
+  pub small : SmallHit r
+
+-- ---- a line
+
+-- what rule 4 leaves
+pub record Moderate (line : Line) : Type 0 where
+  pub product : line .product ≤ mostKilograms
+  pub material : line .material ≤ mostKilograms
+
+-- what is multiplied is small
+pub record SmallProduct (row : Row) (line : Line) : Type 0 where
+  pub coefficient : row .coefficient ≤ mostCoefficient
+  pub activity : Moderate line
+
+-- what rules 1, 4 and 5 leave
+pub record Accountable (b : List ℕ) (line : Line) : Type 0 where
+  pub book : bookOk b ≡ true
+  pub activity : Moderate line
+  pub reuse : line .reuse ≤ wholeShare
+
+-- ---- the tables
+
+-- every new sum fits 64 bits
+abbrev pub Fitting : Tally → TableRow → Type 0
+Fitting t row = (j : ℕ) → j < width → at (cellsOf (t .sums)) j + at (cellsOf row) j < 18_446_744_073_709_551_616
+
+-- what rules 1, 2 and 3 leave, for results of which the shortest has this room
+pub record Ready (f : Lent) (room : ℕ) : Type 0 where
+  pub book : bookOk (f .book) ≡ true
+  pub sheet : sheetOk (f .sheet) ≡ true
+  pub fits : tableSize (lineCount (f .sheet)) ≤ room
+
+-- what filling asks
+pub record Fillable (b : List ℕ) (lines : ℕ) (cells : List ℕ) : Type 0 where
+  pub few : lines ≤ mostLines
+  pub fits : tableSize lines ≤ length cells
+  pub book : bookOk b ≡ true
+
+-- what filling says of its answer r and of what the cells hold afterwards
+pub record Filled (n : ℕ) (l : ℕ → LineOutcome) (cells : List ℕ) (r : Outcome) (after : List ℕ) : Type 0 where
+  pub answer : r ≡ byLines n l
+  pub table : after ≡ cellsAfter r n l cells
+
+-- what showing asks: few enough lines, room in both results, and an exact table that can be settled
+pub record Showable (unit lines : ℕ) (exact shown : List ℕ) : Type 0 where
+  pub few : lines ≤ mostLines
+  pub exactRoom : tableSize lines ≤ length exact
+  pub shownRoom : tableSize lines ≤ length shown
+  pub good : Good unit width (lines + 1) (take (tableSize lines) exact)
+
+-- the shown table of the exact one, and past it what was there
+abbrev pub shownOver : (unit lines : ℕ) (exact shown : List ℕ) → List ℕ
+shownOver unit lines exact shown = shownTable unit width (lines + 1) (take (tableSize lines) exact) ++ drop (tableSize lines) shown
+
+-- the promise where rules 1, 2 and 3 leave it to the lines
+pub record LinesDeclared (f : Lent) (exact shown : List ℕ) (r : Outcome) (exact' shown' : List ℕ) : Type 0 where
+  pub answer : r ≡ byLines (lineCount (f .sheet)) (lineOutcome f)
+  pub cells : BothAfter f exact shown r exact' shown'

@@ -1,0 +1,41 @@
+// A row of the tables as a value, and the cells that it is written in.
+ghost use mathlib.Core.Path.{_≡_};
+ghost use lib.ListN.{length};
+ghost use Rattle.desk.specs.Cells.{cellsOf, rowFrom, width};
+use amounts::line::Amounts;
+
+// The cells of a row: G, R, U, D.
+pub const COLUMNS: usize = 4;
+
+// The column of what is discharged, counted from 0.
+pub const DISCHARGED: usize = 3;
+
+// In units of 10 micrograms.
+pub struct TableRow {
+    pub generated: u64,
+    pub removed: u64,
+    pub reused: u64,
+    pub discharged: u64,
+}
+
+pub(crate) fn row_from(a: Amounts) -> TableRow
+    ensures { λ r. ⌜ r ≡ rowFrom a ⌝ }
+{
+    TableRow {
+        generated: a.generated,
+        removed: a.removed,
+        reused: a.reused,
+        discharged: a.discharged,
+    }
+}
+
+// The row's own part of the result is lent.
+pub(crate) fn write_row(cells: &mut [u64], row: TableRow)
+    requires { ⌜ length (now cells) ≡ width ⌝ }
+    ensures { λ _. ⌜ now (cells .exit) ≡ cellsOf row ⌝ }
+{
+    cells[0] = row.generated;
+    cells[1] = row.removed;
+    cells[2] = row.reused;
+    cells[3] = row.discharged;
+}

@@ -5,7 +5,7 @@ use native.Mathlib.Nat.{lt-of-mul-lt-mul-right, le-of-mul-le-mul-right, mul-le-m
 use native.Mathlib.Omega.{arith}
 use lib.Arith.{digits-div}
 use lib.Pow.{pow-mono}
-use Rattle.amounts.specs.Scaling.{Digit, Parts, Room}
+use Rattle.amounts.specs.Inner.{Digit, Parts, Room}
 
 -- ---- a quotient fits. 2 ^ 64 is a variable here, so that `omega` meets no long numeral
 
@@ -109,13 +109,3 @@ is-quotient v d q r p = sym (digits-div q (p .rest)) ∙ ap (λ (y : ℕ). y / d
 
 pub by-whole : (x n d : ℕ) → x * (n / d * d + n % d) / d ≡ x * n / d
 by-whole x n d = ap (λ (y : ℕ). x * y / d) (div-add-mod' n d)
-
--- ---- thousands
-
-pub thousands : (x u : ℕ) → x / 1000 * u + x % 1000 * u / 1000 ≡ x * u / 1000
-thousands x u = omega (arith, ap (λ (y : ℕ). y * u) (div-add-mod' x 1000))
-
-pub thousands-most : (x u : ℕ) → u ≤ 1000 → (x / 1000 * u ≤ x) × (x % 1000 * u ≤ 1_000_000)
-thousands-most x u h =
-    let low : x % 1000 * u ≤ 999 * u = mul-le-mul-right u (omega arith) in
-    (omega (arith, mul-le-mul-left (x / 1000) h), omega arith)

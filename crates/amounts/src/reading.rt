@@ -1,13 +1,33 @@
 // Meter readings: a bit pattern as a binary64, and a binary64 as a whole number of parts of its unit.
 ghost use mathlib.Core.Path.{_≡_};
 ghost use lib.Ieee.{binary64, ofBits};
-ghost use Rattle.amounts.specs.Reading.{Split, takenOf};
+ghost use Rattle.amounts.specs.Inner.{Split};
+ghost use Rattle.amounts.specs.Reading.{partsPerUnit, takenOf};
 
-// `f64::from_bits` is not defined at a NaN's pattern, so there a NaN is made by a division.
+// Readings are taken in thousandths of their unit.
+pub const PARTS_PER_UNIT: u64 = 1000;
+
+// Twice PARTS_PER_UNIT is ODD · 2^SHIFT.
+const ODD: u64 = 125;
+
+const SHIFT: u64 = 4;
+
+// A binary64's pattern: from the top the sign, eleven bits of exponent, and the 52 binary digits that follow the first one.
+// The sign alone is negative zero. Infinity has the exponent's field full and no further digit.
+const SIGN: u64 = 0x8000_0000_0000_0000;
+
+const INFINITY: u64 = 0x7ff0_0000_0000_0000;
+
+const FIRST_DIGIT: u64 = 0x10_0000_0000_0000;
+
+const FULL_FIELD: u64 = 2047;
+
+// The number whose pattern n is: zeros of either sign, infinities, and a NaN where n is any NaN's pattern.
+// `f64::from_bits` is not defined at those, so there a NaN is made by a division.
 pub fn from_bits(n: u64) -> f64
     ensures { λ x. ⌜ x ≡ ofBits binary64 n ⌝ }
 {
-    if 0x7ff0_0000_0000_0000 < n % 0x8000_0000_0000_0000 {
+    if INFINITY < n % SIGN {
         0.0 / 0.0
     } else {
         f64::from_bits(n)
@@ -21,20 +41,21 @@ pub enum Taken {
     Bad,
 }
 
-// `whole` parts make a unit, and twice as many are odd · 2^shift. A normal float whose exponent's field is e is q · 2^(e - 1075), q its 53 digits. So the half parts
-// are odd · q, shifted by 1075 - shift - e, and the nearest whole number of parts, ties up, is half of one more than these.
-fn parts(bits: u64, whole: u64, odd: u64, shift: u64, most: u32) -> Taken
+// `whole` parts make a unit, and twice as many are odd · 2^shift. A normal float whose exponent's field is e is q · 2^(e - 1075), q its 53 digits.
+// So the half parts are odd · q, shifted right by 1075 - shift - e, and the nearest whole number of parts, ties up, is half of one more than these.
+// Shifted by more than 63 nothing is left, and shifted to the left they are more than `most`, of 32 bits, allows.
+fn by_bits(bits: u64, whole: u64, odd: u64, shift: u64, most: u32) -> Taken
     requires { ⌜ Split whole odd shift ⌝ }
     ensures { λ t. ⌜ t ≡ takenOf whole most (ofBits binary64 bits) ⌝ }
 {
-    if 0x8000_0000_0000_0000 < bits {
+    if SIGN < bits {
         return Taken::Bad;
     }
-    if bits == 0x8000_0000_0000_0000 {
+    if bits == SIGN {
         return Taken::Is(0);
     }
-    let e = bits / 0x10_0000_0000_0000;
-    if e == 2047 {
+    let e = bits / FIRST_DIGIT;
+    if e == FULL_FIELD {
         return Taken::Bad;
     }
     if e + shift < 1012 {
@@ -43,7 +64,7 @@ fn parts(bits: u64, whole: u64, odd: u64, shift: u64, most: u32) -> Taken
     if 1074 < e + shift {
         return Taken::Over;
     }
-    let q = 0x10_0000_0000_0000 + bits % 0x10_0000_0000_0000;
+    let q = FIRST_DIGIT + bits % FIRST_DIGIT;
     let t = ((odd * q >> 1075 - (e + shift)) + 1) / 2;
     if whole * (most as u64) < t {
         return Taken::Over;
@@ -51,12 +72,13 @@ fn parts(bits: u64, whole: u64, odd: u64, shift: u64, most: u32) -> Taken
     Taken::Is(t)
 }
 
-// The thousandths of x, to the nearest, ties up; `most` is in whole units.
-pub fn thousandths(x: f64, most: u32) -> Taken
-    ensures { λ t. ⌜ t ≡ takenOf 1000 most x ⌝ }
+// The parts of x, PARTS_PER_UNIT to a unit: to the nearest whole number, a tie up, x at its exact value. `most` is the limit, in whole units, and is itself taken.
+// Bad for a NaN, an infinity of either sign and everything below zero, however little; negative zero is 0.
+pub fn parts_of(x: f64, most: u32) -> Taken
+    ensures { λ t. ⌜ t ≡ takenOf partsPerUnit most x ⌝ }
 {
     if x != x {
         return Taken::Bad;
     }
-    parts(f64::to_bits(x), 1000, 125, 4, most)
+    by_bits(f64::to_bits(x), PARTS_PER_UNIT, ODD, SHIFT, most)
 }

@@ -1,7 +1,7 @@
 -- The proof of `amounts::scaling::by_digits`, which calls itself; x falls at each call. Assumes nothing.
 use Prim.Native.Nat.{ℕ, _*_, _%_, _^_, _≤_, _<_}
 use mathlib.Core.Path.{_≡_}
-use Rattle.amounts.specs.Scaling.{Digit}
+use Rattle.amounts.specs.Inner.{Digit}
 use native.Mathlib.Omega.{arith}
 use native.Mathlib.Nat.{mod-lt, lt-of-le-of-lt}
 use borrow.Author.Needs.{needs}

@@ -1,4 +1,4 @@
--- `amounts::reading::parts` meets its contract: one law for each range of the pattern. Assumes nothing.
+-- One law of LawReading for each range of the pattern, in the order of the tests. Assumes nothing.
 use mathlib.Core.Path.{sym, _∙_}
 use Prim.Native.Nat.{_+_, _-_, _*_, _/_, _%_}
 use native.Mathlib.Nat.{mul-le-mul-right}
@@ -6,11 +6,10 @@ use native.Mathlib.Omega.{arith}
 use borrow.Author.Needs.{needs}
 use borrow.Author.Tests.{le-leb, lt-leb}
 use lib.Pow.{shr-le}
+use Rattle.amounts.proofs.LawPattern.{firstDigit}
 use Rattle.amounts.proofs.LawReading.{negative, minus-zero, not-finite, little, large, middle, limit-low}
-use Rattle.amounts.proofs.reading.parts.Statement.{statement}
-use Rattle.amounts.proofs.reading.parts.Tie as tie
-use Rattle.amounts.proofs.reading.parts.Reads as reads
-use Rattle.amounts.proofs.reading.parts.Lts as lts
+use Rattle.amounts.proofs.reading.by_bits.Statement.{statement}
+use Rattle.amounts.proofs.reading.by_bits.Tie as tie
 
 returns : tie.Need-returns
 returns c = sym (negative _ _ _ (c .if1 .taken) (c .before .fits .bits .fits))
@@ -34,13 +33,13 @@ returns-5 c =
 mul-t : tie.Need-mul-t
 mul-t c =
     let z = c .before .before .before .before .before in
-    omega (arith, mul-le-mul-right (0x10_0000_0000_0000 + z .args .bits % 0x10_0000_0000_0000) (z .pre .short))
+    omega (arith, mul-le-mul-right (firstDigit + z .args .bits % firstDigit) (z .pre .short))
 
 add-t-2 : tie.Need-add-t-2
 add-t-2 c =
     let z = c .before .before .before .before .before in
-    let q = 0x10_0000_0000_0000 + z .args .bits % 0x10_0000_0000_0000 in
-    omega (arith, mul-le-mul-right q (z .pre .short), shr-le (z .args .odd * q) (1075 - (z .args .bits / 0x10_0000_0000_0000 + z .args .shift)))
+    let q = firstDigit + z .args .bits % firstDigit in
+    omega (arith, mul-le-mul-right q (z .pre .short), shr-le (z .args .odd * q) (1075 - (z .args .bits / firstDigit + z .args .shift)))
 
 mul-if6 : tie.Need-mul-if6
 mul-if6 c =
@@ -50,19 +49,17 @@ mul-if6 c =
 returns-6 : tie.Need-returns-6
 returns-6 c =
     let z = c .before .before .before .before .before .before in
-    sym
-    (middle _ _ _ _ (z .pre) (z .args .bits) (1075 - (z .args .bits / 0x10_0000_0000_0000 + z .args .shift)) (omega arith) (omega arith) (c .before .before .before .if3 .left) (omega arith)
-    ∙ simp (lt-leb _ _ (c .if6 .taken)))
+    let near = middle _ _ _ _ (z .pre) (z .args .bits) (omega arith) (c .before .before .before .if3 .left) (omega arith) (omega arith) in
+    sym (near ∙ simp (lt-leb _ _ (c .if6 .taken)))
 
 returns-7 : tie.Need-returns-7
 returns-7 c =
     let z = c .before .before .before .before .before .before in
-    sym
-    (middle _ _ _ _ (z .pre) (z .args .bits) (1075 - (z .args .bits / 0x10_0000_0000_0000 + z .args .shift)) (omega arith) (omega arith) (c .before .before .before .if3 .left) (omega arith)
-    ∙ simp (le-leb _ _ (c .if6 .left)))
+    let near = middle _ _ _ _ (z .pre) (z .args .bits) (omega arith) (c .before .before .before .if3 .left) (omega arith) (omega arith) in
+    sym (near ∙ simp (le-leb _ _ (c .if6 .left)))
 
-pub parts-spec : {M : Type 1} → statement M
-parts-spec =
+pub by-bits-spec : {M : Type 1} → statement M
+by-bits-spec =
     tie.close
     (tie.spec
     returns

@@ -77,6 +77,12 @@ positive-too m u w a c hu hw hc e = go (eq-zero-or-pos m) (eq-zero-or-pos a)
         absurd (omega arith)
     go (inr p) (inr q) = lt-ltb 0 m p ∙ sym (lt-ltb 0 a q)
 
+pub within-limit : (limit t : ℕ) → t ≤ limit → limited limit t ≡ Is t
+within-limit limit t h = ap (λ (b : Bool). cond b (Is t) Over) (le-leb t limit h)
+
+pub over-limit : (limit t : ℕ) → limit < t → limited limit t ≡ Over
+over-limit limit t h = ap (λ (b : Bool). cond b (Is t) Over) (lt-leb t limit h)
+
 -- the answer for y half parts, and for a float that is a / c in size, with the sign s
 abbrev byHalves : (F most y : ℕ) → Taken
 byHalves F most y = limited (F * most) ((y + 1) / 2)
@@ -139,7 +145,7 @@ module _ (F most : ℕ) where
       ∙ negative-fields E T (omega arith)
 
   nothing-at-all : byHalves F most 0 ≡ Is 0
-  nothing-at-all = simp (le-leb 0 (F * most) (omega arith))
+  nothing-at-all = within-limit (F * most) 0 (omega arith)
 
   pub minus-zero : takenOf F most (ofBits binary64 signBit) ≡ Is 0
   minus-zero =
@@ -217,7 +223,7 @@ module _ (F most o s : ℕ) (S : Split F o s) where
       let many : o * q ≤ y = many-half-parts o s q k 1074 (omega arith) in
       let least : o * firstDigit ≤ o * q = mul-le-mul-left o (omega arith) in
       let over = past (F * most) (o * firstDigit) y (limit-low F o s most S h) (le-trans least many) in
-      finite b k p (omega arith) n ∙ ap (λ (t : Bool). cond t (Is ((y + 1) / 2)) Over) (lt-leb ((y + 1) / 2) (F * most) over)
+      finite b k p (omega arith) n ∙ over-limit (F * most) ((y + 1) / 2) over
     where
       past : (l x y : ℕ) → 2 * l < x → x ≤ y → l < (y + 1) / 2
       past l x y a b = omega arith

@@ -1,4 +1,5 @@
--- Quotients and remainders by d, added, doubled and taken digit by digit. Assumes nothing.
+-- A number v is carried as q · d + r. Every step is an equation between such sums, which `omega` settles once the step's one product is given;
+-- only the last lemma turns q into v / d. That no step wraps follows from q · d ≤ v. Assumes nothing.
 use mathlib.Core.Path.{_≡_, sym, ap, _∙_}
 use Prim.Native.Nat.{ℕ, _+_, _*_, _/_, _%_, _^_, _≤_, _<_}
 use native.Mathlib.Nat.{lt-of-mul-lt-mul-right, le-of-mul-le-mul-right, mul-le-mul-left, mul-le-mul-right, mul-lt-mul-of-pos-right, lt-of-le-of-lt, div-add-mod', mod-lt, div-mul-le-self, div-lt-self}
@@ -55,9 +56,6 @@ pub odd-sum : (x m n d q r s t : ℕ) → (x % 2 ≡ 0 → ⊥) → q * d + r �
 odd-sum x m n d q r s t h e f =
     let halves : 2 * (x / 2) + 1 ≡ x = omega arith in
     omega (arith, ap (λ (y : ℕ). y * (m * d + n)) halves)
-
-pub room-equal : (d v w : ℕ) → v ≡ w → Room w d → Room v d
-room-equal d v w e h = rw e h
 
 -- ---- one digit more, in any base b
 

@@ -1,23 +1,26 @@
 -- Efficiency times n is at most a whole times d, so R is at most what is generated, and U at most what R leaves: no difference wraps.
 -- The record made in each arm is then the paper's, by one law for water and one for elsewhere. Assumes nothing.
-use Prim.Native.Nat.{_-_}
-use native.Mathlib.Nat.{mul-le-mul}
+use Prim.Native.Nat.{ℕ, _-_, _*_, _^_, _≤_, _<_}
+use native.Mathlib.Nat.{mul-le-mul, lt-of-le-of-lt}
 use native.Mathlib.Omega.{arith}
+use lib.Dec.{lit<}
 use borrow.Author.Needs.{needs}
+use Rattle.amounts.specs.Line.{wholeShare, mostDivisor}
 use Rattle.amounts.proofs.LawLine.{part-most, in-water, elsewhere}
 use Rattle.amounts.proofs.line.apportion.Statement.{statement}
 use Rattle.amounts.proofs.line.apportion.Tie as tie
 
+share-fits : {e n : ℕ} → e ≤ wholeShare → n ≤ mostDivisor → e * n < 2 ^ 64
+share-fits h k = lt-of-le-of-lt (mul-le-mul h k) (lit< tt)
+
 mul-share : tie.Need-mul-share
-mul-share c = omega (arith, mul-le-mul (c .pre .efficiency) (c .pre .fraction))
+mul-share c = record { fits = share-fits (c .pre .efficiency) (omega arith) }
 
 share-requires : tie.Need-share-requires
 share-requires c κs = (mul-le-mul (c .pre .efficiency) (omega arith), omega arith)
 
 sub-left : tie.Need-sub-left
-sub-left c =
-    let z = c .before in
-    omega (arith, part-most (z .args .generated) _ _ (mul-le-mul (z .pre .efficiency) (z .pre .fraction)))
+sub-left c = rw (c .share .ensures) (part-most _ _ _ (mul-le-mul (c .before .pre .efficiency) (omega arith)))
 
 sub-discharged : tie.Need-sub-t14
 sub-discharged c =

@@ -1,4 +1,4 @@
--- `amounts::line::work` meets its contract. Assumes nothing.
+-- The test's value decides the definition's case, and where it is true it gives the ranges that `apportion` asks for. Assumes nothing.
 use mathlib.Core.Path.{sym, _∙_}
 use borrow.Author.Needs.{needs}
 use Rattle.amounts.proofs.LawLine.{admitted}

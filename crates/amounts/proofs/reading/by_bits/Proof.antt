@@ -4,21 +4,20 @@ use Prim.Native.Nat.{_+_, _-_, _*_, _/_, _%_}
 use native.Mathlib.Nat.{mul-le-mul-right}
 use native.Mathlib.Omega.{arith}
 use borrow.Author.Needs.{needs}
-use borrow.Author.Tests.{le-leb, lt-leb}
 use lib.Pow.{shr-le}
 use Rattle.amounts.proofs.LawPattern.{firstDigit}
-use Rattle.amounts.proofs.LawReading.{negative, minus-zero, not-finite, little, large, middle, limit-low}
+use Rattle.amounts.proofs.LawReading.{negative, minus-zero, not-finite, little, large, middle, limit-low, within-limit, over-limit}
 use Rattle.amounts.proofs.reading.by_bits.Statement.{statement}
 use Rattle.amounts.proofs.reading.by_bits.Tie as tie
 
 returns : tie.Need-returns
-returns c = sym (negative _ _ _ (c .if1 .taken) (c .before .fits .bits .fits))
+returns c = sym (negative _ _ (c .before .args .bits) (omega arith) (c .before .fits .bits .fits))
 
 returns-2 : tie.Need-returns-2
 returns-2 c = rw (c .if2 .taken) (sym (minus-zero _ _))
 
 returns-3 : tie.Need-returns-3
-returns-3 c = sym (not-finite _ _ (c .before .before .before .args .bits) (omega arith) (c .if3 .taken))
+returns-3 c = sym (not-finite _ _ (c .before .before .before .args .bits) (omega arith) (omega arith))
 
 returns-4 : tie.Need-returns-4
 returns-4 c =
@@ -50,13 +49,13 @@ returns-6 : tie.Need-returns-6
 returns-6 c =
     let z = c .before .before .before .before .before .before in
     let near = middle _ _ _ _ (z .pre) (z .args .bits) (omega arith) (c .before .before .before .if3 .left) (omega arith) (omega arith) in
-    sym (near ∙ simp (lt-leb _ _ (c .if6 .taken)))
+    sym (near ∙ over-limit _ _ (c .if6 .taken))
 
 returns-7 : tie.Need-returns-7
 returns-7 c =
     let z = c .before .before .before .before .before .before in
     let near = middle _ _ _ _ (z .pre) (z .args .bits) (omega arith) (c .before .before .before .if3 .left) (omega arith) (omega arith) in
-    sym (near ∙ simp (le-leb _ _ (c .if6 .left)))
+    sym (near ∙ within-limit _ _ (c .if6 .left))
 
 pub by-bits-spec : {M : Type 1} → statement M
 by-bits-spec =

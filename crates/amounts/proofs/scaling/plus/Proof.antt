@@ -1,4 +1,4 @@
--- `amounts::scaling::plus` meets its contract. Assumes nothing.
+-- The quotients fit because the whole sum has room, one more of them too where the remainders reach d; the rest is linear. Assumes nothing.
 use borrow.Author.Needs.{needs}
 use native.Mathlib.Omega.{arith}
 use Rattle.amounts.proofs.LawScaling.{room-quotient, room-carried}

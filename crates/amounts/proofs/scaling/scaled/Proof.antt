@@ -1,4 +1,4 @@
--- `amounts::scaling::scaled` meets its contract. Assumes nothing.
+-- The two tests of the code are the two of the definition, each told to it as a fact. Assumes nothing.
 use native.Mathlib.Omega.{arith}
 use borrow.Author.Needs.{needs}
 use borrow.Author.Tests.{le-leb, lt-leb, lt-ltb, le-ltb}

@@ -1,4 +1,4 @@
--- Products that fit.
+-- A product is at most the product of its factors' bounds, and that is compared as a numeral. Assumes nothing.
 use Prim.Native.Nat.{ℕ, _*_, _≤_}
 use native.Mathlib.Nat.{mul-le-mul, lt-of-le-of-lt}
 use lib.Dec.{T, ltb, ltb→lt}

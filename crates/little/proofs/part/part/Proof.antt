@@ -1,4 +1,4 @@
--- `little::part::part` meets its contract. Assumes nothing.
+-- A part past the end is empty, one within is the slice's own, and one that runs past the end has what is left. Assumes nothing.
 use native.Mathlib.Nat.{add-sub-cancel-left, le-of-lt}
 use borrow.Author.Needs.{needs}
 use denote.Ref.{now}

@@ -1,4 +1,4 @@
--- `little::read::u32_at` meets its contract. Assumes nothing.
+-- Four bytes read together are two numbers of two bytes each, as at + 2 + 1 is at + 3; what is left is linear. Assumes nothing.
 use Prim.Native.Nat.{_+_}
 use mathlib.Core.Path.{_≡_, sym}
 use native.Mathlib.Omega.{arith}

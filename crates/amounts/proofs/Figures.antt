@@ -2,7 +2,7 @@
 use mathlib.Core.Path.{_≡_, refl}
 use mathlib.Core.Bool.{Bool, true, false, _&&_}
 use mathlib.Core.List.{List, [], _∷_}
-use Prim.Native.Nat.{ℕ, _*_}
+use Prim.Native.Nat.{ℕ, _*_, _/_}
 use lib.Dec.{eqb}
 use Rattle.amounts.specs.declared.line.Worked.{Worked}
 use Rattle.amounts.specs.declared.line.Worked.the-variants.{Line, Bad}
@@ -37,7 +37,7 @@ table =
     ∷ entry 1 700 1 1 950 0 0 1
     ∷ entry 10 995 1 3 500 3 3 4
     ∷ entry 1000 700 4000 8000 0 350 0 650
-    ∷ entry 1000 950 (900_000 * partsPerUnit) (500 * 3_600_000) 0 475 0 525
+    ∷ entry 1000 950 (900 * partsPerUnit * partsPerUnit) (partsPerUnit / 2 * (3600 * partsPerUnit)) 0 475 0 525
     ∷ entry 1000 1000 1 1 0 1000 0 0
     ∷ entry 1000 700 1 1 1000 700 300 0
     ∷ entry 330_720_000_000 700 1 1 950 231_504_000_000 94_255_200_000 4_960_800_000

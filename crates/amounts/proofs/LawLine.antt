@@ -1,5 +1,5 @@
--- A line's numbers pass the test exactly where each range holds, which goes conjunct by conjunct. The code's D, what is left less U rounded down,
--- is the paper's, rounded up, by u + (1000 − u) = 1000. Its bounds add what the two roundings lose, each less than a unit. Assumes nothing.
+-- The test goes conjunct by conjunct. The code's D, what is left less U rounded down, is the paper's, rounded up, because reuse and its
+-- rest make the whole. D's bounds add up what the two roundings lose, each less than a unit. Assumes nothing.
 use mathlib.Core.Path.{_≡_, refl, sym, ap, _∙_}
 use mathlib.Core.Bool.{Bool, true, false, _&&_}
 use Prim.Native.Nat.{ℕ, suc, _+_, _-_, _*_, _/_, _%_, _≤_, _<_}
@@ -74,7 +74,8 @@ same G p q s i = record { generated = G; removed = p i; reused = q i; discharged
 
 -- what the code makes, in water and elsewhere
 module _ (G e n d u r : ℕ) (water : Bool) (removed : r ≡ G * (e * n) / (wholeShare * d)) where
-  pub in-water : (v : ℕ) → water ≡ true → u ≤ wholeShare → v ≡ (G - r) * u / wholeShare → cells G r v (G - r - v) ≡ amountsOf G e n d u water
+  pub in-water : (v : ℕ) → water ≡ true → u ≤ wholeShare → v ≡ (G - r) * u / wholeShare
+      → cells G r v (G - r - v) ≡ amountsOf G e n d u water
   unfolding reusedOf dischargedOf
   in-water v h k q =
       let R = removed ∙ removed-is G e n d in

@@ -18,6 +18,13 @@ infinity = 0x7ff0_0000_0000_0000
 abbrev pub firstDigit : ℕ
 firstDigit = 0x10_0000_0000_0000
 
+-- the exponent's field where it is full, and where the last of a number's 53 digits counts one
+abbrev pub fullField : ℕ
+fullField = 2047
+
+abbrev pub onesField : ℕ
+onesField = 1075
+
 pub by-fields : (b : ℕ) → ofBits binary64 b ≡ ofFields binary64 (leb signBit b) (b % signBit / firstDigit) (b % firstDigit)
 unfolding ofBits
 by-fields b = refl

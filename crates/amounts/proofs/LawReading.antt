@@ -21,7 +21,7 @@ use Rattle.amounts.specs.declared.reading.Taken.{Taken}
 use Rattle.amounts.specs.declared.reading.Taken.the-variants.{Is, Over, Bad}
 use Rattle.amounts.specs.Inner.{Split}
 use Rattle.amounts.specs.Reading.{nearestParts, Nearest, limited, takenOf}
-use Rattle.amounts.proofs.LawPattern.{signBit, firstDigit, by-fields}
+use Rattle.amounts.proofs.LawPattern.{signBit, firstDigit, fullField, onesField, by-fields}
 
 -- ---- whole numbers only
 
@@ -103,18 +103,18 @@ by-value F most (fin t m e) s a c h v =
 -- ---- patterns
 
 module _ (F most : ℕ) where
-  normal : (s : Bool) (k T : ℕ) → (suc k ≡ 2047 → ⊥)
+  normal : (s : Bool) (k T : ℕ) → (suc k ≡ fullField → ⊥)
       → takenOf F most (ofFields binary64 s (suc k) T) ≡ byValue F most s ((firstDigit + T) * 2 ^ k) (2 ^ 1074)
   unfolding ofFields
   normal s k T h =
       let q = firstDigit + T in
-      rw (ne-eqb (suc k) 2047 h) (by-value F most (odd 53 s q k 1074) s (q * 2 ^ k) (2 ^ 1074) (pow-pos 1074) (odd-sign 53 s q k 1074))
+      rw (ne-eqb (suc k) fullField h) (by-value F most (odd 53 s q k 1074) s (q * 2 ^ k) (2 ^ 1074) (pow-pos 1074) (odd-sign 53 s q k 1074))
 
   subnormal : (s : Bool) (T : ℕ) → takenOf F most (ofFields binary64 s 0 T) ≡ byValue F most s (T * 2 ^ 0) (2 ^ 1074)
   unfolding ofFields
   subnormal s T = by-value F most (odd 53 s T 0 1074) s (T * 2 ^ 0) (2 ^ 1074) (pow-pos 1074) (odd-sign 53 s T 0 1074)
 
-  no-number : (s : Bool) (E T : ℕ) → E ≡ 2047 → takenOf F most (ofFields binary64 s E T) ≡ Bad
+  no-number : (s : Bool) (E T : ℕ) → E ≡ fullField → takenOf F most (ofFields binary64 s E T) ≡ Bad
   unfolding ofFields takenOf
   no-number s E T h = rw h (go (eqb T 0))
     where
@@ -127,12 +127,12 @@ module _ (F most : ℕ) where
 
   negative-fields : (E T : ℕ) → 0 < E + T → takenOf F most (ofFields binary64 true E T) ≡ Bad
   negative-fields zero T h = subnormal true T ∙ below-zero (T * 2 ^ 0) (2 ^ 1074) (mul-pos (omega arith) (pow-pos 0))
-  negative-fields (suc k) T h = go (eqb (suc k) 2047) refl
+  negative-fields (suc k) T h = go (eqb (suc k) fullField) refl
     where
-      go : (t : Bool) → eqb (suc k) 2047 ≡ t → takenOf F most (ofFields binary64 true (suc k) T) ≡ Bad
-      go true e = no-number true (suc k) T (eqb-true (suc k) 2047 e)
+      go : (t : Bool) → eqb (suc k) fullField ≡ t → takenOf F most (ofFields binary64 true (suc k) T) ≡ Bad
+      go true e = no-number true (suc k) T (eqb-true (suc k) fullField e)
       go false e =
-          normal true k T (eqb-false (suc k) 2047 e)
+          normal true k T (eqb-false (suc k) fullField e)
           ∙ below-zero ((firstDigit + T) * 2 ^ k) (2 ^ 1074) (mul-pos (omega arith) (pow-pos k))
 
   pub negative : (b : ℕ) → signBit < b → b < 2 ^ 64 → takenOf F most (ofBits binary64 b) ≡ Bad
@@ -153,12 +153,14 @@ module _ (F most : ℕ) where
       ap (takenOf F most) (by-fields signBit) ∙ subnormal true 0 ∙ ap (λ (y : ℕ). byHalves F most (y / 2 ^ 1074)) nought ∙ nothing-at-all
 
   -- from here on the sign is clear
-  unsigned : (b : ℕ) → b < signBit → takenOf F most (ofBits binary64 b) ≡ takenOf F most (ofFields binary64 false (b / firstDigit) (b % firstDigit))
+  unsigned : (b : ℕ) → b < signBit
+      → takenOf F most (ofBits binary64 b) ≡ takenOf F most (ofFields binary64 false (b / firstDigit) (b % firstDigit))
   unsigned b h =
+      let T = b % firstDigit in
       ap (takenOf F most) (by-fields b)
-      ∙ ap₂ (λ (s : Bool) (x : ℕ). takenOf F most (ofFields binary64 s (x / firstDigit) (b % firstDigit))) (lt-leb signBit b h) (mod-eq-of-lt h)
+      ∙ ap₂ (λ (s : Bool) (x : ℕ). takenOf F most (ofFields binary64 s (x / firstDigit) T)) (lt-leb signBit b h) (mod-eq-of-lt h)
 
-  pub not-finite : (b : ℕ) → b < signBit → b / firstDigit ≡ 2047 → takenOf F most (ofBits binary64 b) ≡ Bad
+  pub not-finite : (b : ℕ) → b < signBit → b / firstDigit ≡ fullField → takenOf F most (ofBits binary64 b) ≡ Bad
   not-finite b h e = unsigned b h ∙ no-number false (b / firstDigit) (b % firstDigit) e
 
 -- ---- the three ranges of the exponent's field
@@ -172,11 +174,11 @@ limit-low F o s most S h =
     omega (arith, S .some)
 
 module _ (F most o s : ℕ) (S : Split F o s) where
-  -- q · 2^k over 2^1074, in half parts
+  -- q · 2^k of the smallest unit of a binary64, in half parts
   size : (q k : ℕ) → byHalves F most (2 * F * (q * 2 ^ k) / 2 ^ 1074) ≡ byHalves F most (o * 2 ^ s * (q * 2 ^ k) / 2 ^ 1074)
   size q k = ap (λ (y : ℕ). byHalves F most (y * (q * 2 ^ k) / 2 ^ 1074)) (S .twice)
 
-  finite : (b k : ℕ) → b < signBit → b / firstDigit ≡ suc k → (b / firstDigit ≡ 2047 → ⊥)
+  finite : (b k : ℕ) → b < signBit → b / firstDigit ≡ suc k → (b / firstDigit ≡ fullField → ⊥)
       → takenOf F most (ofBits binary64 b) ≡ byHalves F most (o * 2 ^ s * ((firstDigit + b % firstDigit) * 2 ^ k) / 2 ^ 1074)
   finite b k h e n =
       unsigned F most b h
@@ -184,12 +186,13 @@ module _ (F most o s : ℕ) (S : Split F o s) where
       ∙ normal F most false k (b % firstDigit) (λ p. n (e ∙ p))
       ∙ size (firstDigit + b % firstDigit) k
 
-  pub middle : (b : ℕ) → b < signBit → (b / firstDigit ≡ 2047 → ⊥) → 1012 ≤ b / firstDigit + s → b / firstDigit + s ≤ 1074
-      → takenOf F most (ofBits binary64 b) ≡ byHalves F most (o * (firstDigit + b % firstDigit) / 2 ^ (1075 - (b / firstDigit + s)))
+  pub middle : (b : ℕ) → b < signBit → (b / firstDigit ≡ fullField → ⊥)
+      → onesField - 63 ≤ b / firstDigit + s → b / firstDigit + s < onesField
+      → takenOf F most (ofBits binary64 b) ≡ byHalves F most (o * (firstDigit + b % firstDigit) / 2 ^ (onesField - (b / firstDigit + s)))
   middle b p n low high =
       let k = b / firstDigit - 1 in
       let some : 0 < b / firstDigit = omega (arith, S .few) in
-      let h = 1075 - (b / firstDigit + s) in
+      let h = onesField - (b / firstDigit + s) in
       finite b k p (omega arith) n ∙ ap (byHalves F most) (half-parts o s (firstDigit + b % firstDigit) k h 1074 (omega arith))
 
   few-digits : (q : ℕ) → q < 2 ^ 53 → o * q < 2 ^ (10 + 53)
@@ -199,7 +202,7 @@ module _ (F most o s : ℕ) (S : Split F o s) where
   nothing q k h p r e =
       ap (byHalves F most) (no-half-parts o s q k h 1074 e (lt-of-lt-of-le (few-digits q p) (pow-mono r))) ∙ nothing-at-all F most
 
-  pub little : (b : ℕ) → b < signBit → b / firstDigit + s < 1012 → takenOf F most (ofBits binary64 b) ≡ Is 0
+  pub little : (b : ℕ) → b < signBit → b / firstDigit + s < onesField - 63 → takenOf F most (ofBits binary64 b) ≡ Is 0
   little b p r = go (b / firstDigit) refl
     where
       go : (E : ℕ) → b / firstDigit ≡ E → takenOf F most (ofBits binary64 b) ≡ Is 0
@@ -213,7 +216,7 @@ module _ (F most o s : ℕ) (S : Split F o s) where
           finite b k p e (λ n. omega arith)
           ∙ nothing (firstDigit + b % firstDigit) k (1074 - (k + s)) (omega arith) (omega arith) (omega arith)
 
-  pub large : (b : ℕ) → b < signBit → (b / firstDigit ≡ 2047 → ⊥) → 1074 < b / firstDigit + s → most < 2 ^ 32
+  pub large : (b : ℕ) → b < signBit → (b / firstDigit ≡ fullField → ⊥) → onesField ≤ b / firstDigit + s → most < 2 ^ 32
       → takenOf F most (ofBits binary64 b) ≡ Over
   large b p n r h =
       let k = b / firstDigit - 1 in

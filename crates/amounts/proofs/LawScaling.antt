@@ -1,8 +1,9 @@
--- A number v is carried as q · d + r. Every step is an equation between such sums, which `omega` settles once the step's one product is given;
--- only the last lemma turns q into v / d. That no step wraps follows from q · d ≤ v. Assumes nothing.
+-- A number v is carried as q · d + r. Each step is an equation between such sums, linear once the step's one product is given; the last
+-- laws turn q into v / d. That no step wraps follows from q · d ≤ v. Assumes nothing.
 use mathlib.Core.Path.{_≡_, sym, ap, _∙_}
 use Prim.Native.Nat.{ℕ, _+_, _*_, _/_, _%_, _^_, _≤_, _<_}
-use native.Mathlib.Nat.{lt-of-mul-lt-mul-right, le-of-mul-le-mul-right, mul-le-mul-left, mul-le-mul-right, mul-lt-mul-of-pos-right, lt-of-le-of-lt, div-add-mod', mod-lt, div-mul-le-self, div-lt-self}
+use native.Mathlib.Nat.{lt-of-mul-lt-mul-right, le-of-mul-le-mul-right, mul-le-mul-left, mul-le-mul-right, mul-lt-mul-of-pos-right}
+use native.Mathlib.Nat.{lt-of-le-of-lt, div-add-mod', mod-lt, div-mul-le-self, div-lt-self}
 use native.Mathlib.Omega.{arith}
 use lib.Arith.{digits-div}
 use lib.Pow.{pow-mono}
@@ -81,7 +82,8 @@ next-fits W b x n d r h k l p =
     let high : x % b * d ≤ b * d = mul-le-mul-right d (omega arith) in
     omega (arith, mul-lt-mul-of-pos-right h p)
 
-pub digit-room : (b x n d r k : ℕ) → b ≡ 2 ^ k → Digit d k → r < d → n ≤ d → (r * b < 2 ^ 64) × (x % b * n < 2 ^ 64) × (next b x n r < 2 ^ 64)
+pub digit-room : (b x n d r k : ℕ) → b ≡ 2 ^ k → Digit d k → r < d → n ≤ d
+    → (r * b < 2 ^ 64) × (x % b * n < 2 ^ 64) × (next b x n r < 2 ^ 64)
 digit-room b x n d r k e D h l = go (2 ^ 64) (omega (arith, P .1))
   where
     P : (2 ≤ b) × (b * d ≤ 2 ^ 63)

@@ -1,15 +1,13 @@
--- Rules that are near the paper's and are not its own: each differs from it at a small case, which the statement names and which is computed.
--- Assumes nothing.
-use mathlib.Core.Path.{_≡_, refl}
-use mathlib.Core.Bool.{true, false}
+-- Rules near the paper's: each differs from it at a small case, which the statement names and which is computed. Assumes nothing.
+use mathlib.Core.Path.{_≡_}
+use mathlib.Core.Bool.{true}
 use Prim.Native.Nat.{ℕ, _-_, _*_, _/_}
 use native.Mathlib.Omega.{arith}
-use lib.IntN.{ℤ}
-use lib.Ieee.{Float, fin, binary64, ofBits}
+use lib.Ieee.{binary64, ofBits}
 use Rattle.amounts.specs.declared.reading.Taken.the-variants.{Is}
 use Rattle.amounts.specs.Rounding.{roundedDown, roundedUp}
 use Rattle.amounts.specs.Line.{wholeShare, removedOf, reusedOf, dischargedOf, amountsOf, _over_, whole, manualValue, Sound}
-use Rattle.amounts.specs.Reading.{partsPerUnit, takenOf}
+use Rattle.amounts.specs.Reading.{takenOf}
 
 -- D is within one unit of the exact value: of 2 units with 30 % removed and 40 % reused the rule discharges 2, and the manual 0.84
 one-unit : Sound 1 (manualValue (whole 2) (1 over 1) 300 400 true) (amountsOf 2 300 1 1 400 true) → ⊥
@@ -31,7 +29,7 @@ k-to-a-percent : removedOf 1000 wholeShare 1 3 ≡ roundedDown (1000 * wholeShar
 unfolding removedOf
 k-to-a-percent e = omega (arith, e)
 
--- a tie down: 0.0625 is 62.5 thousandths
-tie-down : takenOf partsPerUnit 1 (ofBits binary64 0x3fb0_0000_0000_0000) ≡ Is 62 → ⊥
+-- a tie down: 0.5 where a unit has one part
+tie-down : takenOf 1 1 (ofBits binary64 0x3fe0_0000_0000_0000) ≡ Is 0 → ⊥
 unfolding takenOf ofBits
 tie-down e = let z : _≡_ {A = ℕ} 0 1 = cc in omega arith

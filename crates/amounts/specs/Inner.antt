@@ -1,4 +1,4 @@
--- For private functions and proofs alone: no public contract cites what stands here, and a reader of the contracts need not. Assumes nothing.
+-- For private functions and proofs alone: what public functions promise is said without this file. Assumes nothing.
 use Prim.Native.Nat.{ℕ, _+_, _*_, _^_, _≤_, _<_}
 use mathlib.Core.Path.{_≡_}
 

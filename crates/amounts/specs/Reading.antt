@@ -11,7 +11,8 @@ use Rattle.amounts.specs.declared.reading.Taken.the-variants.{Is, Over, 
 abbrev pub partsPerUnit : ℕ
 partsPerUnit = 1000
 
--- The largest whole number not above F x + 1/2, for F parts to a unit and x = m · 2^e at its exact value: 2^e is the fraction up e / down e.
+-- the largest whole number not above F x + 1/2, for F parts to a unit and x = m · 2^e at its exact value;
+-- 2^e is the fraction up e / down e
 abbrev pub nearestParts : (F m : ℕ) (e : ℤ) → ℕ
 nearestParts F m e = (2 * F * m * up e + down e) / (2 * down e)
 
@@ -20,6 +21,7 @@ pub record Nearest (F m : ℕ) (e : ℤ) (t : ℕ) : Type 0 where
   pub low : 2 * t * down e ≤ 2 * F * m * up e + down e
   pub high : 2 * F * m * up e + down e < 2 * (t + 1) * down e
 
+-- t where it is within the limit
 abbrev pub limited : (limit t : ℕ) → Taken
 limited limit t = cond (leb t limit) (Is t) Over
 

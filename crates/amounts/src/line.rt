@@ -62,8 +62,8 @@ fn apportion(generated: u64, efficiency: u64, n: u64, d: u64, reuse: u64, water:
     }
 }
 
-// The four amounts of a line whose treatment ran n / d of the time. Only in water is anything reused; elsewhere `reuse` changes nothing, and yet
-// has to be in its range. Bad where efficiency or reuse is above WHOLE_SHARE, n above d, or d 0 or above MOST_DIVISOR. Any amount may be generated.
+// The four amounts of a line whose treatment ran n / d of the time, whatever was generated. Bad where efficiency or reuse is above
+// WHOLE_SHARE, n above d, or d 0 or above MOST_DIVISOR. Out of water nothing is reused, and `reuse` must be in its range all the same.
 pub fn work(generated: u64, efficiency: u64, n: u64, d: u64, reuse: u64, water: bool) -> Worked
     ensures { λ w. ⌜ w ≡ workedOf generated efficiency n d reuse water ⌝ }
 {

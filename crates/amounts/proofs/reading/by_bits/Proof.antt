@@ -5,7 +5,7 @@ use native.Mathlib.Nat.{mul-le-mul-right}
 use native.Mathlib.Omega.{arith}
 use borrow.Author.Needs.{needs}
 use lib.Pow.{shr-le}
-use Rattle.amounts.proofs.LawPattern.{firstDigit}
+use Rattle.amounts.proofs.LawPattern.{firstDigit, onesField}
 use Rattle.amounts.proofs.LawReading.{negative, minus-zero, not-finite, little, large, middle, limit-low, within-limit, over-limit}
 use Rattle.amounts.proofs.reading.by_bits.Statement.{statement}
 use Rattle.amounts.proofs.reading.by_bits.Tie as tie
@@ -38,7 +38,7 @@ add-t-2 : tie.Need-add-t-2
 add-t-2 c =
     let z = c .before .before .before .before .before in
     let q = firstDigit + z .args .bits % firstDigit in
-    omega (arith, mul-le-mul-right q (z .pre .short), shr-le (z .args .odd * q) (1075 - (z .args .bits / firstDigit + z .args .shift)))
+    omega (arith, mul-le-mul-right q (z .pre .short), shr-le (z .args .odd * q) (onesField - (z .args .bits / firstDigit + z .args .shift)))
 
 mul-if6 : tie.Need-mul-if6
 mul-if6 c =
@@ -60,20 +60,5 @@ returns-7 c =
 pub by-bits-spec : {M : Type 1} → statement M
 by-bits-spec =
     tie.close
-    (tie.spec
-    returns
-    returns-2
-    returns-3
-    (λ c. search needs)
-    returns-4
-    (λ c. search needs)
-    returns-5
-    (λ c. search needs)
-    mul-t
-    (λ c. search needs)
-    (λ c. search needs)
-    (λ c. search needs)
-    add-t-2
-    mul-if6
-    returns-6
-    returns-7)
+    (tie.spec returns returns-2 returns-3 (λ c. search needs) (λ c. search needs) returns-4 (λ c. search needs) returns-5
+    (λ c. search needs) mul-t (λ c. search needs) (λ c. search needs) (λ c. search needs) add-t-2 mul-if6 returns-6 returns-7)

@@ -19,7 +19,9 @@ by-bits-requires : tie.Need-by-bits-requires
 by-bits-requires c κs = record { twice = refl; some = lit< tt; short = lit≤ tt; few = lit≤ tt }
 
 returns-2 : tie.Need-returns-2
-returns-2 c = c .by-bits .ensures ∙ ap (takenOf partsPerUnit (c .before .before .args .most)) (ofBits-toBits binary64 _ (passes _ (c .before .before .good .0 .1)))
+returns-2 c =
+    let z = c .before .before in
+    c .by-bits .ensures ∙ ap (takenOf partsPerUnit (z .args .most)) (ofBits-toBits binary64 _ (passes _ (z .good .0 .1)))
 
 pub parts-of-spec : {M : Type 1} → statement M
 parts-of-spec = tie.close (tie.spec returns float-to-bits-by-bits by-bits-requires returns-2)

@@ -1,8 +1,7 @@
--- `by_digits` calls itself on x without its last k digits, so x falls. What the call gives, times 2^k, and the last digits times n are x · n
--- by `next-parts`; the sum below d · 2^(k + 1) fits by `Digit`, and no quotient is above x. Assumes nothing.
+-- `by_digits` calls itself on x without its last k digits, so x falls. What the call gives, times 2^k, and the last digits times n make
+-- x · n by `next-parts`. A step's sum is below d · 2^(k + 1), which fits by `Digit`, and no quotient is above x. Assumes nothing.
 use Prim.Native.Nat.{ℕ, _*_, _%_, _^_, _≤_, _<_}
 use mathlib.Core.Path.{_≡_}
-use Rattle.amounts.specs.Inner.{Digit}
 use native.Mathlib.Omega.{arith}
 use native.Mathlib.Nat.{mod-lt, lt-of-le-of-lt}
 use borrow.Author.Needs.{needs}
@@ -29,11 +28,12 @@ by-digits-below t = and 0 by-digits-kinds.ps (falls 0 by-digits-kinds.ps _<_ μ-
 abbrev claims : ℕ → lts.Claims
 claims t = (power-reads.Asked, power-reads.Learnt, by-digits-below t, by-digits.Post)
 
-room : (x n d r k : ℕ) {b : ℕ} → b ≡ 2 ^ k → (n ≤ d) × (0 < d) × Digit d k → r < d
-    → (r * b < 2 ^ 64) × (x % b * n < 2 ^ 64) × (next b x n r < 2 ^ 64)
-room x n d r k {b} e p h = digit-room b x n d r k e (p .2) h (p .0)
-
 module _ (t : ℕ) where
+  -- the two products of a step, and their sum, fit 64 bits
+  sums : (z : lts.Start (claims t) (by-digits-at t) by-digits.Post) {b r : ℕ} → b ≡ 2 ^ (z .args .k) → r < z .args .d
+      → (r * b < 2 ^ 64) × (z .args .x % b * z .args .n < 2 ^ 64) × (next b (z .args .x) (z .args .n) r < 2 ^ 64)
+  sums z {b} e h = digit-room b (z .args .x) _ _ _ _ e (z .pre .1 .2) h (z .pre .1 .0)
+
   returns : lts.Need-returns (claims t) (by-digits-at t) by-digits.Post
   returns c = nothing _ _ _ (c .before .pre .1 .1) (c .if1 .taken)
 
@@ -53,8 +53,7 @@ module _ (t : ℕ) where
 
   mul-t : lts.Need-mul-t (claims t) (by-digits-at t) by-digits.Post
   mul-t c =
-      let z = c .before .before .before .before in
-      record { fits = room (z .args .x) _ _ _ _ (c .before .before .power .ensures) (z .pre .1) (c .before .by-digits .ensures .rest) .0 }
+      record { fits = sums (c .before .before .before .before) (c .before .before .power .ensures) (c .before .by-digits .ensures .rest) .0 }
 
   rem-t : lts.Need-rem-t (claims t) (by-digits-at t) by-digits.Post
   rem-t c =
@@ -63,13 +62,11 @@ module _ (t : ℕ) where
 
   mul-t-2 : lts.Need-mul-t-2 (claims t) (by-digits-at t) by-digits.Post
   mul-t-2 c =
-      let z = c .before .before .before .before in
-      record { fits = room (z .args .x) _ _ _ _ (c .before .before .power .ensures) (z .pre .1) (c .before .by-digits .ensures .rest) .1 }
+      record { fits = sums (c .before .before .before .before) (c .before .before .power .ensures) (c .before .by-digits .ensures .rest) .1 }
 
   add-t : lts.Need-add-t (claims t) (by-digits-at t) by-digits.Post
   add-t c =
-      let z = c .before .before .before .before in
-      record { fits = room (z .args .x) _ _ _ _ (c .before .before .power .ensures) (z .pre .1) (c .before .by-digits .ensures .rest) .2 }
+      record { fits = sums (c .before .before .before .before) (c .before .before .power .ensures) (c .before .by-digits .ensures .rest) .2 }
 
   mul-q : lts.Need-mul-t10 (claims t) (by-digits-at t) by-digits.Post
   mul-q c =

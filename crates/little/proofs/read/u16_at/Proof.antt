@@ -25,14 +25,5 @@ returns-3 c = record { eq = sym (u16-past (now (c .before .before .args .s)) _ (
 pub u16-at-spec : {M : Type 1} → statement M
 u16-at-spec =
     tie.close
-    (tie.spec
-    (λ c. search needs)
-    (λ c κs. search needs)
-    (λ c. search needs)
-    (λ c κs. search needs)
-    (λ c. search needs)
-    (λ c. search needs)
-    (λ c κs. search needs)
-    returns
-    returns-2
-    returns-3)
+    (tie.spec (λ c. search needs) (λ c κs. search needs) (λ c. search needs) (λ c κs. search needs) (λ c. search needs)
+    (λ c. search needs) (λ c κs. search needs) returns returns-2 returns-3)

@@ -5,7 +5,7 @@ use mathlib.Core.Path.{_≡_, refl, sym, ap, ap₂, _∙_, subst}
 use mathlib.Core.Logic.{_⊎_, inl, inr}
 use mathlib.Core.Bool.{Bool, true, false, not, cond, _&&_}
 use Prim.Native.Nat.{ℕ, zero, suc, _+_, _-_, _*_, _/_, _%_, _^_, _≤_, _<_}
-use native.Mathlib.Nat.{mul-div-mul-right, mul-le-mul, mul-le-mul-right, mul-le-mul-left, div-eq-of-lt, le-div-iff-mul-le}
+use native.Mathlib.Nat.{mul-div-mul-right, mul-le-mul-right, mul-le-mul-left, div-eq-of-lt, le-div-iff-mul-le}
 use native.Mathlib.Nat.{add-div-right, div-div-eq-div-mul, div-mul-le-self, lt-div-mul-add, mul-pos, eq-zero-or-pos}
 use native.Mathlib.Nat.{mod-eq-of-lt, lt-of-lt-of-le, lt-of-le-of-lt, le-trans, mul-lt-mul-of-pos-left}
 use native.Mathlib.Omega.{arith}

@@ -1,6 +1,6 @@
 -- `by_digits` calls itself on x without its last k digits, so x falls. What the call gives, times 2^k, and the last digits times n make
 -- x · n by `next-parts`. A step's sum is below d · 2^(k + 1), which fits by `Digit`, and no quotient is above x. Assumes nothing.
-use Prim.Native.Nat.{ℕ, _*_, _%_, _^_, _≤_, _<_}
+use Prim.Native.Nat.{ℕ, _*_, _%_, _^_, _<_}
 use mathlib.Core.Path.{_≡_}
 use native.Mathlib.Omega.{arith}
 use native.Mathlib.Nat.{mod-lt, lt-of-le-of-lt}

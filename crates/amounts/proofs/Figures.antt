@@ -1,14 +1,15 @@
--- The paper's table P, as one statement over all its entries. Assumes nothing.
+-- The paper's table P, as one computed test over the list of its entries. Assumes nothing.
 use mathlib.Core.Path.{_≡_, refl}
 use mathlib.Core.Bool.{Bool, true, false, _&&_}
 use mathlib.Core.List.{List, [], _∷_}
-use Prim.Native.Nat.{ℕ, _*_}
+use Prim.Native.Nat.{ℕ, _*_, _/_}
 use lib.Dec.{eqb}
 use Rattle.amounts.specs.declared.line.Worked.{Worked}
 use Rattle.amounts.specs.declared.line.Worked.the-variants.{Line, Bad}
+use Rattle.amounts.specs.Reading.{partsPerUnit}
 use Rattle.amounts.specs.Line.{removedOf, reusedOf, dischargedOf, admissible, workedOf}
 
--- G, efficiency, k = n / d, reuse; R, U, D
+-- G, efficiency, k = n over d, reuse; R, U, D
 record Entry : Type 0 where
   G : ℕ
   e : ℕ
@@ -36,7 +37,7 @@ table =
     ∷ entry 1 700 1 1 950 0 0 1
     ∷ entry 10 995 1 3 500 3 3 4
     ∷ entry 1000 700 4000 8000 0 350 0 650
-    ∷ entry 1000 950 (900_000 * 1000) (500 * 3_600_000) 0 475 0 525
+    ∷ entry 1000 950 (900 * partsPerUnit * partsPerUnit) (partsPerUnit / 2 * (3600 * partsPerUnit)) 0 475 0 525
     ∷ entry 1000 1000 1 1 0 1000 0 0
     ∷ entry 1000 700 1 1 1000 700 300 0
     ∷ entry 330_720_000_000 700 1 1 950 231_504_000_000 94_255_200_000 4_960_800_000

@@ -1,13 +1,16 @@
--- What may be worked, as a test and as facts, and what is owed of a line's amounts. Assumes nothing.
+-- The test goes conjunct by conjunct. The code's D, what is left less U rounded down, is the paper's, rounded up, because reuse and its
+-- rest make the whole. D's bounds add up what the two roundings lose, each less than a unit. Assumes nothing.
 use mathlib.Core.Path.{_≡_, refl, sym, ap, _∙_}
 use mathlib.Core.Bool.{Bool, true, false, _&&_}
 use Prim.Native.Nat.{ℕ, suc, _+_, _-_, _*_, _/_, _%_, _≤_, _<_}
-use native.Mathlib.Nat.{mul-le-mul-right, mul-le-mul-left, mod-lt, div-add-mod', div-le-of-le-mul, mul-assoc}
+use native.Mathlib.Nat.{mul-le-mul, mul-le-mul-right, mul-le-mul-left, mod-lt, div-add-mod', div-le-of-le-mul, mul-assoc, one-mul}
 use native.Mathlib.Omega.{arith}
 use borrow.Author.Tests.{le-leb, lt-ltb, leb-true, ltb-true}
+use Rattle.amounts.specs.Rounding.{roundedUp}
 use Rattle.amounts.specs.declared.line.Amounts.{Amounts}
 use Rattle.amounts.specs.declared.line.Worked.the-variants.{Line}
-use Rattle.amounts.specs.Line.{removedOf, reusedOf, dischargedOf, amountsOf, Admissible, admissible, workedOf, unused, manualValue, Sound}
+use Rattle.amounts.specs.Line.{wholeShare, removedOf, reusedOf, dischargedOf, amountsOf, Admissible, admissible, workedOf}
+use Rattle.amounts.specs.Line.{_over_, whole, unused, manualValue, Sound}
 
 -- ---- the test
 
@@ -35,43 +38,54 @@ unfolding admissible
 worked-line G e n d u water a =
     simp (le-leb _ _ (a .efficiency), le-leb _ _ (a .fraction), lt-ltb _ _ (a .divisor), le-leb _ _ (a .size), le-leb _ _ (a .reuse))
 
--- ---- the amounts
-
-pub share-most : (e n d : ℕ) → e ≤ 1000 → n ≤ d → e * n ≤ 1000 * d
-share-most e n d a b = omega (arith, mul-le-mul-right n a)
+-- ---- shares of a whole
 
 pub part-most : (x n d : ℕ) → n ≤ d → x * n / d ≤ x
 part-most x n d h = div-le-of-le-mul d (omega (arith, mul-le-mul-left x h))
 
-removed-is : (G e n d : ℕ) → G * (e * n) / (1000 * d) ≡ removedOf G e n d
-unfolding removedOf
-removed-is G e n d = ap (λ (y : ℕ). y / (1000 * d)) (sym (mul-assoc G e n))
+-- by the wholes of x and what is left of x
+pub wholes : (x u : ℕ) → x / wholeShare * u + x % wholeShare * u / wholeShare ≡ x * u / wholeShare
+wholes x u = omega (arith, ap (λ (y : ℕ). y * u) (div-add-mod' x wholeShare))
 
--- x less x · u / 1000, rounded down, is x · (1000 − u) / 1000, rounded up
-rounded-up : (x u : ℕ) → u ≤ 1000 → x - x * u / 1000 ≡ (x * (1000 - u) + 999) / 1000
-rounded-up x u h = go (1000 - u) (omega arith)
+-- ... neither of which is more than these
+pub wholes-most : (x u : ℕ) → u ≤ wholeShare → (x / wholeShare * u ≤ x) × (x % wholeShare * u ≤ wholeShare * wholeShare)
+wholes-most x u h =
+    let rest : x % wholeShare ≤ wholeShare = omega arith in
+    (omega (arith, mul-le-mul-left (x / wholeShare) h), mul-le-mul rest h)
+
+-- x less its share u, rounded down, is its share of the rest of the whole, rounded up
+rounded-up : (x u : ℕ) → u ≤ wholeShare → x - x * u / wholeShare ≡ roundedUp (x * (wholeShare - u)) wholeShare
+rounded-up x u h = go (wholeShare - u) (omega arith)
   where
-    go : (w : ℕ) → u + w ≡ 1000 → x - x * u / 1000 ≡ (x * w + 999) / 1000
+    go : (w : ℕ) → u + w ≡ wholeShare → x - x * u / wholeShare ≡ roundedUp (x * w) wholeShare
     go w e = omega (arith, ap (λ (y : ℕ). x * y) e)
 
-same : (G : ℕ) {r r′ u u′ d d′ : ℕ} → r ≡ r′ → u ≡ u′ → d ≡ d′
-    → _≡_ {A = Amounts} (record { generated = G; removed = r; reused = u; discharged = d }) (record { generated = G; removed = r′; reused = u′; discharged = d′ })
+-- ---- the amounts
+
+removed-is : (G e n d : ℕ) → G * (e * n) / (wholeShare * d) ≡ removedOf G e n d
+unfolding removedOf
+removed-is G e n d = ap (λ (y : ℕ). y / (wholeShare * d)) (sym (mul-assoc G e n))
+
+abbrev cells : (G R U D : ℕ) → Amounts
+cells G R U D = record { generated = G; removed = R; reused = U; discharged = D }
+
+same : (G : ℕ) {r r′ u u′ d d′ : ℕ} → r ≡ r′ → u ≡ u′ → d ≡ d′ → cells G r u d ≡ cells G r′ u′ d′
 same G p q s i = record { generated = G; removed = p i; reused = q i; discharged = s i }
 
 -- what the code makes, in water and elsewhere
-pub in-water : (G e n d u r v : ℕ) (water : Bool) → water ≡ true → u ≤ 1000 → r ≡ G * (e * n) / (1000 * d) → v ≡ (G - r) * u / 1000
-    → _≡_ {A = Amounts} (record { generated = G; removed = r; reused = v; discharged = G - r - v }) (amountsOf G e n d u water)
-unfolding reusedOf dischargedOf
-in-water G e n d u r v water h k p q =
-    let R = p ∙ removed-is G e n d in
-    simp (← R, h) (same G refl q (ap (λ (y : ℕ). G - r - y) q ∙ rounded-up (G - r) u k))
+module _ (G e n d u r : ℕ) (water : Bool) (removed : r ≡ G * (e * n) / (wholeShare * d)) where
+  pub in-water : (v : ℕ) → water ≡ true → u ≤ wholeShare → v ≡ (G - r) * u / wholeShare
+      → cells G r v (G - r - v) ≡ amountsOf G e n d u water
+  unfolding reusedOf dischargedOf
+  in-water v h k q =
+      let R = removed ∙ removed-is G e n d in
+      simp (← R, h) (same G refl q (ap (λ (y : ℕ). G - r - y) q ∙ rounded-up (G - r) u k))
 
-pub elsewhere : (G e n d u r : ℕ) (water : Bool) → water ≡ false → r ≡ G * (e * n) / (1000 * d)
-    → _≡_ {A = Amounts} (record { generated = G; removed = r; reused = 0; discharged = G - r }) (amountsOf G e n d u water)
-unfolding reusedOf dischargedOf
-elsewhere G e n d u r water h p =
-    let R = p ∙ removed-is G e n d in
-    simp (← R, h)
+  pub elsewhere : water ≡ false → cells G r 0 (G - r) ≡ amountsOf G e n d u water
+  unfolding reusedOf dischargedOf
+  elsewhere h =
+      let R = removed ∙ removed-is G e n d in
+      simp (← R, h)
 
 -- ---- what is owed of them
 
@@ -79,46 +93,48 @@ elsewhere G e n d u r water h p =
 not-removed : (G X R N E M s : ℕ) → X + R ≡ G → M + E ≡ N → R * N + s ≡ G * E → X * N ≡ G * M + s
 not-removed G X R N E M s a b h = omega (arith, ap (λ (y : ℕ). y * N) a, ap (λ (y : ℕ). G * y) b)
 
--- D is X · f / 1000, rounded up by t thousandths
-bounds : (G X N M s f t D : ℕ) → X * N ≡ G * M + s → s < N → f ≤ 1000 → D * 1000 ≡ X * f + t → t < 1000
-    → (G * M * f ≤ D * (N * 1000)) × (D * (N * 1000) < G * M * f + 2 * (N * 1000))
-bounds G X N M s f t D a b c h k =
-    let e : D * 1000 * N ≡ (X * f + t) * N = ap (λ (y : ℕ). y * N) h in
+-- D is X · f / W, rounded up by t / W
+bounds : (G X N M s f t D W : ℕ) → X * N ≡ G * M + s → s < N → f ≤ W → D * W ≡ X * f + t → t < W
+    → (G * M * f ≤ D * (N * W)) × (D * (N * W) < G * M * f + 2 * (N * W))
+bounds G X N M s f t D W a b c h k =
+    let e : D * W * N ≡ (X * f + t) * N = ap (λ (y : ℕ). y * N) h in
     let g : X * N * f ≡ (G * M + s) * f = ap (λ (y : ℕ). y * f) a in
-    let p : s * f ≤ s * 1000 = mul-le-mul-left s c in
-    let q : suc t * N ≤ 1000 * N = mul-le-mul-right N k in
+    let p : s * f ≤ s * W = mul-le-mul-left s c in
+    let q : suc t * N ≤ W * N = mul-le-mul-right N k in
+    let r : suc s * W ≤ N * W = mul-le-mul-right W b in
     (omega arith, omega arith)
 
--- by how much the ceiling of p / 1000 is above it
-ceiling : (p : ℕ) → (t : ℕ) × ((p + 999) / 1000 * 1000 ≡ p + t) × (t < 1000)
-ceiling p = ((p + 999) / 1000 * 1000 - p, omega arith, omega arith)
+-- by how much p / wholeShare, rounded up, is above it
+ceiling : (p : ℕ) → (t : ℕ) × (roundedUp p wholeShare * wholeShare ≡ p + t) × (t < wholeShare)
+ceiling p = (roundedUp p wholeShare * wholeShare - p, omega arith, omega arith)
 
-unused-most : (u : ℕ) (water : Bool) → unused u water ≤ 1000
+unused-most : (u : ℕ) (water : Bool) → unused u water ≤ wholeShare
 unused-most u true = omega arith
 unused-most u false = omega arith
 
--- the two rounded parts of x make x, and the second is x · unused / 1000 rounded up
-parts : (x u : ℕ) (water : Bool) → u ≤ 1000
-    → (x ≡ reusedOf x u water + dischargedOf x u water) × (dischargedOf x u water ≡ (x * unused u water + 999) / 1000)
+-- the two rounded parts of x make x, and the second is what is not reused, rounded up
+parts : (x u : ℕ) (water : Bool) → u ≤ wholeShare
+    → (x ≡ reusedOf x u water + dischargedOf x u water) × (dischargedOf x u water ≡ roundedUp (x * unused u water) wholeShare)
 unfolding reusedOf dischargedOf
-parts x u true h = (omega (arith, rounded-up x u h, part-most x u 1000 h), refl)
+parts x u true h = (omega (arith, rounded-up x u h, part-most x u wholeShare h), refl)
 parts x u false h = (omega arith, omega arith)
 
-pub sound : (G e n d u : ℕ) (water : Bool) → Admissible e n d u → Sound (manualValue G e n d u water) (amountsOf G e n d u water)
+pub sound : (G e n d u : ℕ) (water : Bool) → Admissible e n d u
+    → Sound 2 (manualValue (whole G) (n over d) e u water) (amountsOf G e n d u water)
 sound G e n d u water a =
     let E = e * n in
-    let N = 1000 * d in
+    let N = wholeShare * d in
     let R = removedOf G e n d in
     let X = G - R in
     let is : G * E / N ≡ R = removed-is G e n d in
-    let most : E ≤ N = share-most e n d (a .efficiency) (a .fraction) in
+    let most : E ≤ N = mul-le-mul (a .efficiency) (a .fraction) in
     let R-most : R ≤ G = rw (← is) (part-most G E N most) in
     let P = parts X u water (a .reuse) in
     let C = ceiling (X * unused u water) in
     let D = dischargedOf X u water in
-    let h : D * 1000 ≡ X * unused u water + C .0 = ap (λ (y : ℕ). y * 1000) (P .1) ∙ C .1 in
+    let h : D * wholeShare ≡ X * unused u water + C .0 = ap (λ (y : ℕ). y * wholeShare) (P .1) ∙ C .1 in
     let rest : R * N + G * E % N ≡ G * E = ap (λ (y : ℕ). y * N + G * E % N) (sym is) ∙ div-add-mod' (G * E) N in
-    let B = bounds G X N (N - E) (G * E % N) (unused u water) (C .0) D
-    (not-removed G X R N E (N - E) (G * E % N) (omega arith) (omega arith) rest)
-    (mod-lt (G * E) (omega (arith, a .divisor))) (unused-most u water) h (C .2) in
-    record { sum = omega (arith, P .0); low = B .0; high = B .1 }
+    let left = not-removed G X R N E (N - E) (G * E % N) (omega arith) (omega arith) rest in
+    let less : G * E % N < N = mod-lt (G * E) (omega (arith, a .divisor)) in
+    let B = bounds G X N (N - E) (G * E % N) (unused u water) (C .0) D wholeShare left less (unused-most u water) h (C .2) in
+    record { sum = omega (arith, P .0); low = rw one-mul (B .0); high = rw one-mul (B .1) }

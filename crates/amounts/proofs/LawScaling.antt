@@ -1,11 +1,13 @@
--- Quotients and remainders by d, added, doubled and taken digit by digit. Assumes nothing.
+-- A number v is carried as q · d + r. Each step is an equation between such sums, linear once the step's one product is given; the last
+-- laws turn q into v / d. That no step wraps follows from q · d ≤ v. Assumes nothing.
 use mathlib.Core.Path.{_≡_, sym, ap, _∙_}
 use Prim.Native.Nat.{ℕ, _+_, _*_, _/_, _%_, _^_, _≤_, _<_}
-use native.Mathlib.Nat.{lt-of-mul-lt-mul-right, le-of-mul-le-mul-right, mul-le-mul-left, mul-le-mul-right, mul-lt-mul-of-pos-right, lt-of-le-of-lt, div-add-mod', mod-lt, div-mul-le-self, div-lt-self}
+use native.Mathlib.Nat.{lt-of-mul-lt-mul-right, le-of-mul-le-mul-right, mul-le-mul-left, mul-le-mul-right, mul-lt-mul-of-pos-right}
+use native.Mathlib.Nat.{lt-of-le-of-lt, div-add-mod', mod-lt, div-mul-le-self, div-lt-self}
 use native.Mathlib.Omega.{arith}
 use lib.Arith.{digits-div}
 use lib.Pow.{pow-mono}
-use Rattle.amounts.specs.Scaling.{Digit, Parts, Room}
+use Rattle.amounts.specs.Inner.{Digit, Parts, Room}
 
 -- ---- a quotient fits. 2 ^ 64 is a variable here, so that `omega` meets no long numeral
 
@@ -56,9 +58,6 @@ odd-sum x m n d q r s t h e f =
     let halves : 2 * (x / 2) + 1 ≡ x = omega arith in
     omega (arith, ap (λ (y : ℕ). y * (m * d + n)) halves)
 
-pub room-equal : (d v w : ℕ) → v ≡ w → Room w d → Room v d
-room-equal d v w e h = rw e h
-
 -- ---- one digit more, in any base b
 
 abbrev pub next : (b x n r : ℕ) → ℕ
@@ -83,7 +82,8 @@ next-fits W b x n d r h k l p =
     let high : x % b * d ≤ b * d = mul-le-mul-right d (omega arith) in
     omega (arith, mul-lt-mul-of-pos-right h p)
 
-pub digit-room : (b x n d r k : ℕ) → b ≡ 2 ^ k → Digit d k → r < d → n ≤ d → (r * b < 2 ^ 64) × (x % b * n < 2 ^ 64) × (next b x n r < 2 ^ 64)
+pub digit-room : (b x n d r k : ℕ) → b ≡ 2 ^ k → Digit d k → r < d → n ≤ d
+    → (r * b < 2 ^ 64) × (x % b * n < 2 ^ 64) × (next b x n r < 2 ^ 64)
 digit-room b x n d r k e D h l = go (2 ^ 64) (omega (arith, P .1))
   where
     P : (2 ≤ b) × (b * d ≤ 2 ^ 63)
@@ -109,13 +109,3 @@ is-quotient v d q r p = sym (digits-div q (p .rest)) ∙ ap (λ (y : ℕ). y / d
 
 pub by-whole : (x n d : ℕ) → x * (n / d * d + n % d) / d ≡ x * n / d
 by-whole x n d = ap (λ (y : ℕ). x * y / d) (div-add-mod' n d)
-
--- ---- thousands
-
-pub thousands : (x u : ℕ) → x / 1000 * u + x % 1000 * u / 1000 ≡ x * u / 1000
-thousands x u = omega (arith, ap (λ (y : ℕ). y * u) (div-add-mod' x 1000))
-
-pub thousands-most : (x u : ℕ) → u ≤ 1000 → (x / 1000 * u ≤ x) × (x % 1000 * u ≤ 1_000_000)
-thousands-most x u h =
-    let low : x % 1000 * u ≤ 999 * u = mul-le-mul-right u (omega arith) in
-    (omega (arith, mul-le-mul-left (x / 1000) h), omega arith)

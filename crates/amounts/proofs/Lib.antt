@@ -3,3 +3,4 @@ pub mod LawLine
 pub mod LawPattern
 pub mod LawReading
 pub mod Figures
+pub mod LawShutOut

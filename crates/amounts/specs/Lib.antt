@@ -2,3 +2,4 @@ pub mod Rounding
 pub mod Scaling
 pub mod Line
 pub mod Reading
+pub mod Inner

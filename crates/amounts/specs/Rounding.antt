@@ -1,4 +1,4 @@
--- Rounding of a fraction of whole numbers. Assumes nothing.
+-- A fraction of whole numbers, rounded. Assumes nothing.
 use Prim.Native.Nat.{ℕ, _+_, _-_, _/_}
 
 -- a / b, rounded down

@@ -1,9 +1,14 @@
 // From a line's generated amount to what is removed, reused and discharged.
 ghost use mathlib.Core.Path.{_≡_};
-ghost use Prim.Native.Nat.{_≤_, _<_};
-ghost use Rattle.amounts.specs.Line.{Admissible, admissible, amountsOf, workedOf};
-use super::scaling::per_mille;
+ghost use Prim.Native.Nat.{_*_, _/_, _≤_, _<_};
+ghost use Rattle.amounts.specs.Line.{wholeShare, Admissible, admissible, amountsOf, workedOf};
 use super::scaling::share;
+
+// Efficiency and reuse are in tenths of a percent: this many make the whole.
+pub const WHOLE_SHARE: u64 = 1000;
+
+// The largest d of a fraction k = n / d: its product with WHOLE_SHARE fits 64 bits.
+pub const MOST_DIVISOR: u64 = 10_000_000_000_000_000;
 
 // All in units of 10 micrograms.
 pub struct Amounts {
@@ -13,6 +18,7 @@ pub struct Amounts {
     pub discharged: u64,
 }
 
+// A line's amounts; or Bad, where a number is outside its range.
 pub enum Worked {
     Line(Amounts),
     Bad,
@@ -21,17 +27,25 @@ pub enum Worked {
 fn takes(efficiency: u64, n: u64, d: u64, reuse: u64) -> bool
     ensures { λ b. ⌜ b ≡ admissible efficiency n d reuse ⌝ }
 {
-    (efficiency <= 1000) & (n <= d) & (0 < d) & (d <= 10_000_000_000_000_000) & (reuse <= 1000)
+    (efficiency <= WHOLE_SHARE) & (n <= d) & (0 < d) & (d <= MOST_DIVISOR) & (reuse <= WHOLE_SHARE)
+}
+
+// x · u / WHOLE_SHARE, by the wholes of x and what is left of x: no long division.
+fn of_whole(x: u64, u: u64) -> u64
+    requires { ⌜ u ≤ wholeShare ⌝ }
+    ensures { λ q. ⌜ q ≡ x * u / wholeShare ⌝ }
+{
+    x / WHOLE_SHARE * u + x % WHOLE_SHARE * u / WHOLE_SHARE
 }
 
 fn apportion(generated: u64, efficiency: u64, n: u64, d: u64, reuse: u64, water: bool) -> Amounts
     requires { ⌜ Admissible efficiency n d reuse ⌝ }
     ensures { λ a. ⌜ a ≡ amountsOf generated efficiency n d reuse water ⌝ }
 {
-    let removed = share(generated, efficiency * n, 1000 * d);
+    let removed = share(generated, efficiency * n, WHOLE_SHARE * d);
     let left = generated - removed;
     if water {
-        let reused = per_mille(left, reuse);
+        let reused = of_whole(left, reuse);
         Amounts {
             generated,
             removed,
@@ -48,7 +62,8 @@ fn apportion(generated: u64, efficiency: u64, n: u64, d: u64, reuse: u64, water:
     }
 }
 
-// The four amounts of a line whose treatment ran n / d of the time; Bad where a number is outside its range.
+// The four amounts of a line whose treatment ran n / d of the time, whatever was generated. Bad where efficiency or reuse is above
+// WHOLE_SHARE, n above d, or d 0 or above MOST_DIVISOR. Out of water nothing is reused, and `reuse` must be in its range all the same.
 pub fn work(generated: u64, efficiency: u64, n: u64, d: u64, reuse: u64, water: bool) -> Worked
     ensures { λ w. ⌜ w ≡ workedOf generated efficiency n d reuse water ⌝ }
 {

@@ -1,13 +1,40 @@
 // Meter readings: a bit pattern as a binary64, and a binary64 as a whole number of parts of its unit.
 ghost use mathlib.Core.Path.{_≡_};
 ghost use lib.Ieee.{binary64, ofBits};
-ghost use Rattle.amounts.specs.Reading.{Split, takenOf};
+ghost use Rattle.amounts.specs.Inner.{Split};
+ghost use Rattle.amounts.specs.Reading.{partsPerUnit, takenOf};
 
-// `f64::from_bits` is not defined at a NaN's pattern, so there a NaN is made by a division.
+// Readings are taken in thousandths of their unit.
+pub const PARTS_PER_UNIT: u64 = 1000;
+
+// Twice PARTS_PER_UNIT is ODD · 2^SHIFT.
+const ODD: u64 = 125;
+
+// The power of two in twice PARTS_PER_UNIT.
+const SHIFT: u64 = 4;
+
+// A binary64's pattern is, from the top, the sign, the exponent's field of 11 bits, and the 52 binary digits that follow the first.
+// The sign alone is negative zero.
+const SIGN: u64 = 0x8000_0000_0000_0000;
+
+// The first digit of a normal number, which its pattern leaves out, and so the weight of the field's lowest bit.
+const FIRST_DIGIT: u64 = 0x10_0000_0000_0000;
+
+// The field of infinity and of a NaN.
+const FULL_FIELD: u64 = 2047;
+
+// Infinity has a full field and no digits: without their sign, the patterns above it are a NaN's.
+const INFINITY: u64 = 0x7ff0_0000_0000_0000;
+
+// The field of a number whose last digit counts one.
+const ONES_FIELD: u64 = 1075;
+
+// The number whose pattern n is: zeros of either sign, infinities, and a NaN where n is any NaN's pattern.
+// `f64::from_bits` is not defined at those, so there a NaN is made by a division.
 pub fn from_bits(n: u64) -> f64
     ensures { λ x. ⌜ x ≡ ofBits binary64 n ⌝ }
 {
-    if 0x7ff0_0000_0000_0000 < n % 0x8000_0000_0000_0000 {
+    if INFINITY < n % SIGN {
         0.0 / 0.0
     } else {
         f64::from_bits(n)
@@ -21,42 +48,44 @@ pub enum Taken {
     Bad,
 }
 
-// `whole` parts make a unit, and twice as many are odd · 2^shift. A normal float whose exponent's field is e is q · 2^(e - 1075), q its 53 digits. So the half parts
-// are odd · q, shifted by 1075 - shift - e, and the nearest whole number of parts, ties up, is half of one more than these.
-fn parts(bits: u64, whole: u64, odd: u64, shift: u64, most: u32) -> Taken
+// `whole` parts make a unit, and twice as many are odd · 2^shift. A number whose field is e is q · 2^(e - ONES_FIELD), q its 53 digits.
+// So its half parts are odd · q, shifted right by ONES_FIELD - (e + shift). The nearest whole number of parts, a tie up, is half of one
+// more than the half parts. Shifted by more than 63 nothing is left of them; not shifted to the right they are past any limit of 32 bits.
+fn by_bits(bits: u64, whole: u64, odd: u64, shift: u64, most: u32) -> Taken
     requires { ⌜ Split whole odd shift ⌝ }
     ensures { λ t. ⌜ t ≡ takenOf whole most (ofBits binary64 bits) ⌝ }
 {
-    if 0x8000_0000_0000_0000 < bits {
+    if SIGN < bits {
         return Taken::Bad;
     }
-    if bits == 0x8000_0000_0000_0000 {
+    if bits == SIGN {
         return Taken::Is(0);
     }
-    let e = bits / 0x10_0000_0000_0000;
-    if e == 2047 {
+    let e = bits / FIRST_DIGIT;
+    if e == FULL_FIELD {
         return Taken::Bad;
     }
-    if e + shift < 1012 {
+    if e + shift < ONES_FIELD - 63 {
         return Taken::Is(0);
     }
-    if 1074 < e + shift {
+    if ONES_FIELD <= e + shift {
         return Taken::Over;
     }
-    let q = 0x10_0000_0000_0000 + bits % 0x10_0000_0000_0000;
-    let t = ((odd * q >> 1075 - (e + shift)) + 1) / 2;
+    let q = FIRST_DIGIT + bits % FIRST_DIGIT;
+    let t = ((odd * q >> ONES_FIELD - (e + shift)) + 1) / 2;
     if whole * (most as u64) < t {
         return Taken::Over;
     }
     Taken::Is(t)
 }
 
-// The thousandths of x, to the nearest, ties up; `most` is in whole units.
-pub fn thousandths(x: f64, most: u32) -> Taken
-    ensures { λ t. ⌜ t ≡ takenOf 1000 most x ⌝ }
+// The parts of x, PARTS_PER_UNIT to a unit: to the nearest whole number, a tie up, x at its exact value; negative zero has 0.
+// Bad for a NaN, an infinity of either sign and any number below zero. Over where the parts are more than those of `most` whole units.
+pub fn parts_of(x: f64, most: u32) -> Taken
+    ensures { λ t. ⌜ t ≡ takenOf partsPerUnit most x ⌝ }
 {
     if x != x {
         return Taken::Bad;
     }
-    parts(f64::to_bits(x), 1000, 125, 4, most)
+    by_bits(f64::to_bits(x), PARTS_PER_UNIT, ODD, SHIFT, most)
 }

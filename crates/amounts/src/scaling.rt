@@ -1,7 +1,8 @@
 // Proportional scaling without a wider integer: the whole part of x · n / d.
 ghost use mathlib.Core.Path.{_≡_};
 ghost use Prim.Native.Nat.{_+_, _*_, _/_, _^_, _≤_, _<_};
-ghost use Rattle.amounts.specs.Scaling.{scaledOf, Digit, Parts, Room};
+ghost use Rattle.amounts.specs.Inner.{Digit, Parts, Room};
+ghost use Rattle.amounts.specs.Scaling.{scaledOf};
 
 // The number q · d + r, for a divisor d that both sides know.
 struct Part {
@@ -42,6 +43,7 @@ fn doubled(x: u64, m: u64, n: u64, d: u64) -> Part
     }
 }
 
+// 2^k.
 fn power(k: u64) -> u64
     requires { ⌜ k < 64 ⌝ }
     ensures { λ p. ⌜ p ≡ 2 ^ k ⌝ }
@@ -49,7 +51,8 @@ fn power(k: u64) -> u64
     1 << k
 }
 
-// How many binary digits of x are taken at a time: the smaller the divisor, the more. A remainder and a digit, each times the power, fit together.
+// How many binary digits of x are taken at a time: the smaller the divisor, the more. A remainder times their power and
+// a digit times the divisor fit 64 bits together.
 fn digits_at_once(d: u64) -> u64
     requires { ⌜ d ≤ 2 ^ 62 ⌝ }
     ensures { λ k. ⌜ Digit d k ⌝ }
@@ -90,6 +93,7 @@ fn by_digits(x: u64, n: u64, d: u64, k: u64) -> Part
     }
 }
 
+// The whole part of x · n / d, for a share n / d of at most the whole.
 pub(crate) fn share(x: u64, n: u64, d: u64) -> u64
     requires { ⌜ (n ≤ d) × (0 < d) ⌝ }
     ensures { λ q. ⌜ q ≡ x * n / d ⌝ }
@@ -102,20 +106,13 @@ pub(crate) fn share(x: u64, n: u64, d: u64) -> u64
     whole.q
 }
 
-// x · u / 1000, by the thousands of x: no long division.
-pub(crate) fn per_mille(x: u64, u: u64) -> u64
-    requires { ⌜ u ≤ 1000 ⌝ }
-    ensures { λ q. ⌜ q ≡ x * u / 1000 ⌝ }
-{
-    x / 1000 * u + x % 1000 * u / 1000
-}
-
+// A whole number; or Bad, where it was asked for a share of nothing, or for more than the whole.
 pub enum Portion {
     Is(u64),
     Bad,
 }
 
-// The whole part of x · n / d; Bad where d is 0 or n is above d.
+// The whole part of x · n / d, for any x. Bad where d is 0 or n is above d; x where n is d.
 pub fn scaled(x: u64, n: u64, d: u64) -> Portion
     ensures { λ s. ⌜ s ≡ scaledOf x n d ⌝ }
 {

@@ -1,4 +1,4 @@
--- Parts of lists, read and written.
+-- Parts of lists, read and written: `take` and `drop` at a place that is past the end, or is where two lists were joined. Assumes nothing.
 use Prim.Native.Nat.{ℕ, _+_, _*_, _-_, _≤_}
 use mathlib.Core.Path.{_≡_, sym, ap, _∙_}
 use mathlib.Core.List.{List, [], _++_, append-nil}
@@ -22,9 +22,13 @@ part-rest s from count h =
 -- a fill from the front that reached the end
 pub fill-done : (d : List ℕ) (v i : ℕ) → length d ≤ i → i ≤ length d → replicate i v ++ drop i d ≡ replicate (length d) v
 fill-done d v i h g =
-    ap (λ (t : List ℕ). replicate i v ++ t) (drop-of-length-le d h) ∙ append-nil (replicate i v) ∙ ap (λ (k : ℕ). replicate k v) (le-antisymm g h)
+    ap (λ (t : List ℕ). replicate i v ++ t) (drop-of-length-le d h)
+    ∙ append-nil (replicate i v)
+    ∙ ap (λ (k : ℕ). replicate k v) (le-antisymm g h)
 
 -- of a list cut into parts of k entries each, part i is written: before it stands p, and what follows is as it was
-pub put-part : (k i : ℕ) (p e v : List ℕ) → length p ≡ k * i → putMid (k * i) (k * i + k - k * i) (p ++ drop (k * i) e) v ≡ p ++ (v ++ drop (k * (i + 1)) e)
+pub put-part : (k i : ℕ) (p e v : List ℕ) → length p ≡ k * i
+    → putMid (k * i) (k * i + k - k * i) (p ++ drop (k * i) e) v ≡ p ++ (v ++ drop (k * (i + 1)) e)
 put-part k i p e v h =
-    rw (take-at p (drop (k * i) e) (k * i) h, drop-at p (drop (k * i) e) (k * i) h, add-sub-cancel-left (k * i) k, drop-drop k (k * i) e, add-one i, mul-suc k i)
+    let rest = drop (k * i) e in
+    rw (take-at p rest (k * i) h, drop-at p rest (k * i) h, add-sub-cancel-left (k * i) k, drop-drop k (k * i) e, add-one i, mul-suc k i)

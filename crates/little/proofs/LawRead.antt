@@ -1,4 +1,4 @@
--- Past the end every number is 0.
+-- Past the end every number is 0: each of its halves is, by the law of half its bytes. Assumes nothing.
 use Prim.Native.Nat.{ℕ, _+_, _≤_}
 use mathlib.Core.List.{List}
 use mathlib.Core.Path.{_≡_}

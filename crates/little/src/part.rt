@@ -2,7 +2,8 @@
 ghost use mathlib.Core.Path.{_≡_};
 ghost use Rattle.little.specs.Part.{partOf};
 
-// The `count` bytes from `from` on, or as many of them as there are.
+// The `count` bytes from `from` on, or as many of them as there are: none where the slice ends at or before `from`.
+// No sum is made that could wrap, whatever is asked for.
 pub fn part(s: &[u8], from: usize, count: usize) -> &[u8]
     ensures { λ r. ⌜ now r ≡ partOf (now (s .entry)) from count ⌝ }
 {

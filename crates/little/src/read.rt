@@ -2,28 +2,37 @@
 ghost use mathlib.Core.Path.{_≡_};
 ghost use Prim.Native.Nat.{_<_};
 ghost use lib.ListN.{length};
-ghost use Rattle.little.specs.Read.{byteAt, u16At, u32At, u64At, Reads};
+ghost use Rattle.little.specs.Read.{byteRange, u16Range, u32Range, byteAt, u16At, u32At, u64At, Reads};
+
+// How many numbers a byte, two bytes and four bytes can be.
+const BYTE_RANGE: usize = 256;
+
+const U16_RANGE: usize = 65536;
+
+const U32_RANGE: usize = 4294967296;
 
 fn byte(s: &[u8], at: usize) -> usize
     requires { ⌜ at < length (now s) ⌝ }
-    ensures { λ r. ⌜ Reads r (byteAt (now (s .entry)) at) 256 ⌝ }
+    ensures { λ r. ⌜ Reads r (byteAt (now (s .entry)) at) byteRange ⌝ }
 {
     s[at] as usize
 }
 
+// The byte at `at`; 0 where the slice ends at or before it.
 pub fn byte_at(s: &[u8], at: usize) -> usize
-    ensures { λ r. ⌜ Reads r (byteAt (now (s .entry)) at) 256 ⌝ }
+    ensures { λ r. ⌜ Reads r (byteAt (now (s .entry)) at) byteRange ⌝ }
 {
     if at < s.len() { byte(s, at) } else { 0 }
 }
 
-// Where all bytes are there they are read together, by one test.
+// The two bytes from `at` on, the low one first; of those past the end each counts as 0.
+// Where all bytes are there they are read together, by one test, here and below.
 pub fn u16_at(s: &[u8], at: usize) -> usize
-    ensures { λ r. ⌜ Reads r (u16At (now (s .entry)) at) 65536 ⌝ }
+    ensures { λ r. ⌜ Reads r (u16At (now (s .entry)) at) u16Range ⌝ }
 {
     if at < s.len() {
         if 2 <= s.len() - at {
-            byte(s, at) + 256 * byte(s, at + 1)
+            byte(s, at) + BYTE_RANGE * byte(s, at + 1)
         } else {
             byte(s, at)
         }
@@ -32,27 +41,29 @@ pub fn u16_at(s: &[u8], at: usize) -> usize
     }
 }
 
+// The four bytes from `at` on, the low ones first; of those past the end each counts as 0.
 pub fn u32_at(s: &[u8], at: usize) -> usize
-    ensures { λ r. ⌜ Reads r (u32At (now (s .entry)) at) 4294967296 ⌝ }
+    ensures { λ r. ⌜ Reads r (u32At (now (s .entry)) at) u32Range ⌝ }
 {
     if at < s.len() {
         if 4 <= s.len() - at {
-            let low = byte(s, at) + 256 * byte(s, at + 1);
-            let high = byte(s, at + 2) + 256 * byte(s, at + 3);
-            low + 65536 * high
+            let low = byte(s, at) + BYTE_RANGE * byte(s, at + 1);
+            let high = byte(s, at + 2) + BYTE_RANGE * byte(s, at + 3);
+            low + U16_RANGE * high
         } else {
-            u16_at(s, at) + 65536 * u16_at(s, at + 2)
+            u16_at(s, at) + U16_RANGE * u16_at(s, at + 2)
         }
     } else {
         0
     }
 }
 
+// The eight bytes from `at` on, the low ones first; of those past the end each counts as 0.
 pub fn u64_at(s: &[u8], at: usize) -> u64
     ensures { λ r. ⌜ r ≡ u64At (now (s .entry)) at ⌝ }
 {
     if at < s.len() {
-        (u32_at(s, at) + 4294967296 * u32_at(s, at + 4)) as u64
+        (u32_at(s, at) + U32_RANGE * u32_at(s, at + 4)) as u64
     } else {
         0
     }

@@ -1,4 +1,4 @@
--- `amounts::reading::from_bits` meets its contract. Assumes nothing.
+-- The comparison holds exactly for a NaN's patterns; zero over zero computes to the one NaN. Assumes nothing.
 use mathlib.Core.Path.{_≡_, refl, sym, _∙_}
 use borrow.Author.Needs.{needs}
 use lib.Ieee.{div, nan, binary64, ofBits}

@@ -1,4 +1,4 @@
--- `amounts::scaling::plus` meets its contract. Assumes nothing.
+-- The quotients fit because the whole sum has room, one more of them too where the remainders reach d; the rest is linear. Assumes nothing.
 use borrow.Author.Needs.{needs}
 use native.Mathlib.Omega.{arith}
 use Rattle.amounts.proofs.LawScaling.{room-quotient, room-carried}
@@ -15,4 +15,6 @@ carry : tie.Need-add-t12
 carry c = record { fits = room-carried _ _ _ (c .before .pre .2) (omega arith) }
 
 pub plus-spec : {M : Type 1} → statement M
-plus-spec = tie.close (tie.spec (λ c. search needs) add-q (λ c. search needs) add-q-before-carry carry (λ c. search needs) (λ c. search needs))
+plus-spec =
+    tie.close
+    (tie.spec (λ c. search needs) add-q (λ c. search needs) add-q-before-carry carry (λ c. search needs) (λ c. search needs))

@@ -1,4 +1,4 @@
--- `amounts::scaling::power` meets its contract: no bit is shifted out. Assumes nothing.
+-- As k is below 64 no bit is shifted out, and the shift is a product by 2^k. Assumes nothing.
 use mathlib.Core.Path.{_∙_}
 use native.Mathlib.Nat.{one-mul}
 use native.Mathlib.Omega.{arith}

@@ -1,4 +1,4 @@
--- `amounts::scaling::share` meets its contract. Assumes nothing.
+-- Either way gives a quotient and a remainder of x · n by d, and there is only one such quotient. Assumes nothing.
 use mathlib.Core.Path.{_∙_}
 use native.Mathlib.Nat.{mod-lt}
 use borrow.Author.Needs.{needs}

@@ -1,4 +1,4 @@
--- `little::cells::clear` meets its contract. Assumes nothing.
+-- Before each turn the first i cells are 0 and the others are as they were; at the end there are no others. Assumes nothing.
 use Prim.Native.Nat.{_<_, _≤_, _-_}
 use mathlib.Core.Path.{_≡_, refl, _∙_}
 use mathlib.Core.List.{_++_}
@@ -12,25 +12,25 @@ use Rattle.little.proofs.cells.clear.Statement.{statement}
 use Rattle.little.proofs.cells.clear.Tie as tie
 
 abbrev Inv-loop : tie.InvT-loop
-Inv-loop cells₀ i₀ cells i = (i ≤ length cells₀) × (length cells ≡ length cells₀) × (cells ≡ replicate i 0 ++ drop i cells₀)
+Inv-loop cells₀ i₀ cells i = (cells ≡ replicate i 0 ++ drop i cells₀) × (i ≤ length cells₀) × (length cells ≡ length cells₀)
 
 abbrev μ-loop : tie.MeasureT-loop
 μ-loop cells₀ i₀ cells i = length cells₀ - i
 
 loop-holds : tie.Need-loop-holds Inv-loop μ-loop
-loop-holds c = (search needs, refl, refl)
+loop-holds c = (refl, search needs, refl)
 
 loop-again : tie.Need-loop-again Inv-loop μ-loop
 loop-again c =
     let l = c .before in
     let h : l .loop .i < length (now (l .before .args .cells)) = omega arith in
-    (search needs, search needs, rw (l .loop .inv .2) (fill-more _ _ _ h))
+    (rw (l .loop .inv .0) (fill-more _ _ _ h), search needs, search needs)
 
 returns : tie.Need-returns Inv-loop μ-loop
 returns c =
     let l = c .before in
     let h : length (now (l .before .args .cells)) ≤ l .loop .i = omega arith in
-    l .loop .inv .2 ∙ fill-done _ _ _ h (l .loop .inv .0)
+    l .loop .inv .0 ∙ fill-done _ _ _ h (l .loop .inv .1)
 
 pub clear-spec : {M : Type 1} → statement M
 clear-spec =

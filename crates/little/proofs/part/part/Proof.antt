@@ -1,7 +1,9 @@
--- `little::part::part` meets its contract. Assumes nothing.
+-- A part past the end is empty, one within is the slice's own, and one that runs past the end has what is left. Assumes nothing.
+use mathlib.Core.Path.{ap}
 use native.Mathlib.Nat.{add-sub-cancel-left, le-of-lt}
 use borrow.Author.Needs.{needs}
 use denote.Ref.{now}
+use Rattle.little.specs.Part.{partOf}
 use Rattle.little.proofs.LawPart.{part-none, part-rest}
 use Rattle.little.proofs.part.part.Statement.{statement}
 use Rattle.little.proofs.part.part.Tie as tie
@@ -14,7 +16,7 @@ returns c =
 returns-2 : tie.Need-returns-2
 returns-2 c =
     let entry = c .before .before .before in
-    rw (add-sub-cancel-left (entry .args .from) (entry .args .count))
+    ap (partOf (now (entry .args .s)) (entry .args .from)) (add-sub-cancel-left (entry .args .from) (entry .args .count))
 
 returns-3 : tie.Need-returns-3
 returns-3 c =
@@ -24,5 +26,5 @@ returns-3 c =
 pub part-spec : {M : Type 1} → statement M
 part-spec =
     tie.close
-    (tie.spec (λ c. search needs) returns (λ c. search needs) (λ c. search needs) (λ c. search needs) (λ c. search needs) (λ c. search needs)
-    (λ c. search needs) (λ c. search needs) (λ c. search needs) returns-2 returns-3)
+    (tie.spec (λ c. search needs) returns (λ c. search needs) (λ c. search needs) (λ c. search needs) (λ c. search needs)
+    (λ c. search needs) (λ c. search needs) (λ c. search needs) (λ c. search needs) returns-2 returns-3)

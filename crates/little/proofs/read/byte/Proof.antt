@@ -1,4 +1,4 @@
--- `little::read::byte` meets its contract. Assumes nothing.
+-- What a slice of bytes holds at an index is below 256, so the cast keeps it. Assumes nothing.
 use native.Mathlib.Omega.{arith}
 use borrow.Author.Needs.{needs}
 use Rattle.little.proofs.read.byte.Statement.{statement}

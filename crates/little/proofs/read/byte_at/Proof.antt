@@ -1,4 +1,4 @@
--- `little::read::byte_at` meets its contract. Assumes nothing.
+-- Within the slice it is the byte's own read; past the end the list's default. Assumes nothing.
 use mathlib.Core.Path.{sym}
 use denote.Ref.{now}
 use Rattle.little.proofs.LawRead.{byte-past}

@@ -1,4 +1,4 @@
--- `little::read::u16_at` meets its contract. Assumes nothing.
+-- The definition is opened and each byte that is not there is 0; what is left is linear. Assumes nothing.
 use Prim.Native.Nat.{_+_}
 use mathlib.Core.Path.{sym}
 use native.Mathlib.Omega.{arith}
@@ -15,7 +15,9 @@ returns c = record { eq = omega arith; small = omega arith }
 
 returns-2 : tie.Need-returns-2
 unfolding u16At
-returns-2 c = record { eq = omega (arith, byte-past (now (c .before .before .before .before .args .s)) (c .before .before .before .before .args .at + 1) (omega arith)); small = omega arith }
+returns-2 c =
+    let entry = c .before .before .before .before in
+    record { eq = omega (arith, byte-past (now (entry .args .s)) (entry .args .at + 1) (omega arith)); small = omega arith }
 
 returns-3 : tie.Need-returns-3
 returns-3 c = record { eq = sym (u16-past (now (c .before .before .args .s)) _ (c .if1 .left)); small = search needs }
@@ -23,14 +25,5 @@ returns-3 c = record { eq = sym (u16-past (now (c .before .before .args .s)) _ (
 pub u16-at-spec : {M : Type 1} → statement M
 u16-at-spec =
     tie.close
-    (tie.spec
-    (λ c. search needs)
-    (λ c κs. search needs)
-    (λ c. search needs)
-    (λ c κs. search needs)
-    (λ c. search needs)
-    (λ c. search needs)
-    (λ c κs. search needs)
-    returns
-    returns-2
-    returns-3)
+    (tie.spec (λ c. search needs) (λ c κs. search needs) (λ c. search needs) (λ c κs. search needs) (λ c. search needs)
+    (λ c. search needs) (λ c κs. search needs) returns returns-2 returns-3)

@@ -1,4 +1,4 @@
--- `little::read::u64_at` meets its contract. Assumes nothing.
+-- Two halves below 2^32 make a number that fits, so neither sum nor cast loses anything. Assumes nothing.
 use mathlib.Core.Path.{sym}
 use native.Mathlib.Omega.{arith}
 use borrow.Author.Needs.{needs}

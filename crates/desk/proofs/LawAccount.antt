@@ -11,7 +11,7 @@ use Rattle.search.specs.declared.found.Found.{Found}
 use Rattle.search.specs.declared.found.Found.the-variants.{At, Nothing}
 use Rattle.search.proofs.LawTest.{clash, either-way, or-left, or-right}
 use Rattle.search.proofs.LawFirst.{first-below}
-use Rattle.amounts.specs.Line.{wholeShare, Admissible, amountsOf, workedOf, manualValue, Sound}
+use Rattle.amounts.specs.Line.{wholeShare, Admissible, amountsOf, workedOf, _over_, whole, manualValue, Sound}
 use Rattle.amounts.specs.declared.line.Amounts.{Amounts}
 use Rattle.amounts.specs.declared.line.Worked.{Worked}
 use Rattle.amounts.proofs.LawLine.{worked-line, sound}
@@ -151,7 +151,7 @@ line-balances f good i = account-balances (f .book) (lineOf (f .sheet) i) good
 
 pub line-sound : (b : List ℕ) (line : Line) (row : Row) (e n d : ℕ) → bookOk b ≡ true → line .reuse ≤ wholeShare → rowOf b (line .key) ≡ Hit row
     → treatmentOf (techniqueBlock b) row (line .technique) (line .reading) ≡ By e n d → let G = generatedOf row line in
-    Sound (manualValue G e n d (line .reuse) (inWater line)) (amountsOf G e n d (line .reuse) (inWater line))
+    Sound 2 (manualValue (whole G) (n over d) e (line .reuse) (inWater line)) (amountsOf G e n d (line .reuse) (inWater line))
 line-sound b line row e n d good reuse hit by =
     let g = hit-good b (line .key) row good hit in
     sound (generatedOf row line) e n d (line .reuse) (inWater line)

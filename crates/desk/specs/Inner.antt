@@ -5,6 +5,7 @@ use mathlib.Core.Bool.{Bool, true, false}
 use mathlib.Core.List.{List, _++_}
 use lib.ListN.{length, take, drop}
 use Rattle.amounts.specs.Line.{wholeShare}
+use Rattle.little.specs.Read.{u16Range}
 use Rattle.settle.specs.Shown.{at}
 use Rattle.settle.specs.Table.{Good}
 use Rattle.settle.specs.Step.{shownTable}
@@ -29,12 +30,9 @@ use Rattle.desk.specs.declared.tally.Tally.{Tally}
 
 -- ---- how far reads go
 
--- what a u16 holds is below it, and what a u32 holds
+-- what a u16 counts is below it
 abbrev pub counted : ℕ
-counted = 65536
-
-abbrev pub u32Range : ℕ
-u32Range = 4294967296
+counted = u16Range
 
 -- rows and lines start below this: an offset u32, and at most as many of them as a u16 counts
 abbrev pub farthest : ℕ

@@ -2,10 +2,10 @@
 ghost use mathlib.Core.Path.{_≡_};
 ghost use mathlib.Core.Bool.{true};
 ghost use Prim.Native.Nat.{_<_, _^_};
-ghost use Rattle.little.specs.Read.{Reads};
+ghost use Rattle.little.specs.Read.{Reads, u32Range};
 ghost use Rattle.desk.specs.Book.{bookHeader, rowCount, techniqueCount, bookHeaderOk, techniqueBlock};
 ghost use Rattle.desk.specs.Book.{rowStart, keyAt, fieldsOk, coefficientAt, rises, rowOk, rowsOk, bookOk};
-ghost use Rattle.desk.specs.Inner.{counted, farthest, u32Range};
+ghost use Rattle.desk.specs.Inner.{counted, farthest};
 ghost use Rattle.desk.specs.InnerRun.{Runs};
 use super::house::file_ok;
 use super::key::Key;

@@ -26,7 +26,7 @@ use Rattle.desk.specs.Lent.{Lent}
 use Rattle.desk.specs.Cells.{width, cellsOf, rowFrom}
 use Rattle.desk.specs.Account.{treated, byTechnique, treatmentOf, generatedOf, inWater, byTreatment, byRow}
 use Rattle.desk.specs.Account.{excessive, accountOf, lineOutcome}
-use Rattle.desk.specs.Inner.{Moderate}
+use Rattle.desk.specs.Inner.{Moderate, GoodRow}
 use Rattle.desk.specs.declared.answer.LineFault.the-variants.{WrongKind}
 use Rattle.desk.specs.declared.line.Line.{Line}
 use Rattle.desk.specs.declared.row.Row.{Row}
@@ -41,7 +41,7 @@ use Rattle.desk.specs.declared.account.LineOutcome.{LineOutcome}
 use Rattle.desk.specs.declared.account.LineOutcome.the-variants.{Given, Refusal}
 use Rattle.desk.proofs.LawColumns.{Balanced}
 use Rattle.desk.proofs.LawReading.{Fair, share-fair}
-use Rattle.desk.proofs.LawRow.{GoodRow, hit-good}
+use Rattle.desk.proofs.LawRow.{hit-good}
 
 -- what rule 4 leaves
 pub moderate : (line : Line) → excessive line ≡ false → Moderate line

@@ -10,8 +10,8 @@ use Rattle.search.specs.declared.found.Found.the-variants.{At, Nothing}
 use Rattle.search.proofs.LawTest.{clash}
 use Rattle.search.proofs.LawFirst.{first-below, or-else-below}
 use Rattle.desk.specs.Key.{allScales}
-use Rattle.desk.specs.Book.{rowCount, techniqueBlock, techniqueEfficiency, bookOk, mostCoefficient}
-use Rattle.amounts.specs.Line.{wholeShare}
+use Rattle.desk.specs.Book.{rowCount, techniqueBlock, bookOk}
+use Rattle.desk.specs.Inner.{GoodRow}
 use Rattle.desk.specs.Row.{rowHas, rowIndex, rowAt, rowFrom, rowOf}
 use Rattle.desk.specs.declared.key.Key.{Key}
 use Rattle.desk.specs.declared.row.Row.{Row}
@@ -25,11 +25,6 @@ row-below b k i h =
     (λ j q. first-below (rowHas b k) (rowCount b) j q)
     (λ j q. first-below (rowHas b (allScales k)) (rowCount b) j q)
     h
-
--- a row of a good book with the technique block t
-pub record GoodRow (t : List ℕ) (row : Row) : Type 0 where
-  pub coefficient : row .coefficient ≤ mostCoefficient
-  pub efficiency : (j : ℕ) → j < row .techniques → techniqueEfficiency t (row .first + j) ≤ wholeShare
 
 good-at : (b : List ℕ) → bookOk b ≡ true → (i : ℕ) → i < rowCount b → GoodRow (techniqueBlock b) (rowAt b i)
 unfolding rowAt

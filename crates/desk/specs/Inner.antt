@@ -10,7 +10,7 @@ use Rattle.settle.specs.Shown.{at}
 use Rattle.settle.specs.Table.{Good}
 use Rattle.settle.specs.Step.{shownTable}
 use Rattle.desk.specs.Key.{keyLess}
-use Rattle.desk.specs.Book.{rowCount, rowStart, keyAt, bookOk, mostCoefficient}
+use Rattle.desk.specs.Book.{rowCount, rowStart, keyAt, techniqueEfficiency, bookOk, mostCoefficient}
 use Rattle.desk.specs.Sheet.{lineCount, sheetOk, mostLines}
 use Rattle.desk.specs.Line.{mostKilograms}
 use Rattle.desk.specs.Lent.{Lent}
@@ -78,6 +78,18 @@ pub record Moderate (line : Line) : Type 0 where
 pub record SmallProduct (row : Row) (line : Line) : Type 0 where
   pub coefficient : row .coefficient ≤ mostCoefficient
   pub activity : Moderate line
+
+-- a row of a good book whose technique block is t
+pub record GoodRow (t : List ℕ) (row : Row) : Type 0 where
+  pub coefficient : row .coefficient ≤ mostCoefficient
+  pub efficiency : (j : ℕ) → j < row .techniques → techniqueEfficiency t (row .first + j) ≤ wholeShare
+
+-- what rules 1, 4, 5 and 6 leave
+pub record Treatable (t : List ℕ) (row : Row) (line : Line) : Type 0 where
+  pub good : GoodRow t row
+  pub small : SmallRow row
+  pub activity : Moderate line
+  pub reuse : line .reuse ≤ wholeShare
 
 -- what rules 1, 4 and 5 leave
 pub record Accountable (b : List ℕ) (line : Line) : Type 0 where

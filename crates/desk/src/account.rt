@@ -7,8 +7,8 @@ ghost use Rattle.desk.specs.Book.{bookOk, techniqueBlock};
 ghost use Rattle.desk.specs.Reading.{shareOf};
 ghost use Rattle.desk.specs.Row.{rowOf};
 ghost use Rattle.desk.specs.Lent.{lent};
-ghost use Rattle.desk.specs.Account.{treated, treatmentOf, generatedOf, byRow, accountOf, lineOutcome};
-ghost use Rattle.desk.specs.Inner.{counted, SmallRow, SmallProduct, Accountable};
+ghost use Rattle.desk.specs.Account.{treated, treatmentOf, generatedOf, byTreatment, byRow, accountOf, lineOutcome};
+ghost use Rattle.desk.specs.Inner.{counted, SmallRow, SmallProduct, Treatable, Accountable};
 use super::answer::LineFault;
 use super::book::technique_block;
 use super::cells::TableRow;
@@ -106,30 +106,33 @@ fn amounts_of(
     }
 }
 
+fn by_treatment(t: &[u8], row: Row, line: Line) -> LineOutcome
+    requires { ⌜ Treatable (now t) row line ⌝ }
+    ensures { λ r. ⌜ r ≡ byTreatment row line (treatmentOf (now (t .entry)) row (line .technique) (line .reading)) ⌝ }
+{
+    let key = line.key;
+    let reading = line.reading;
+    match treatment_of(t, row, line.technique, reading) {
+        Treatment::NoTreatment(fault) => LineOutcome::Refusal(fault),
+        Treatment::By(efficiency, n, d) => LineOutcome::Given(row_from(amounts_of(
+            generated(row, line),
+            efficiency,
+            n,
+            d,
+            line.reuse,
+            key.medium == 1,
+        ))),
+    }
+}
+
 fn by_row(b: &[u8], line: Line) -> LineOutcome
     requires { ⌜ Accountable (now b) line ⌝ }
     ensures { λ r. ⌜ r ≡ byRow (techniqueBlock (now (b .entry))) line (rowOf (now (b .entry)) (line .key)) ⌝ }
 {
     let key = line.key;
-    let reading = line.reading;
     match row_of(b, key) {
         RowSearch::Miss => LineOutcome::Refusal(LineFault::NoRow),
-        RowSearch::Hit(row) => match treatment_of(
-            technique_block(b),
-            row,
-            line.technique,
-            reading,
-        ) {
-            Treatment::NoTreatment(fault) => LineOutcome::Refusal(fault),
-            Treatment::By(efficiency, n, d) => LineOutcome::Given(row_from(amounts_of(
-                generated(row, line),
-                efficiency,
-                n,
-                d,
-                line.reuse,
-                key.medium == 1,
-            ))),
-        },
+        RowSearch::Hit(row) => by_treatment(technique_block(b), row, line),
     }
 }
 

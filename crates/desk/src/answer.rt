@@ -76,6 +76,13 @@ impl Fault {
 }
 
 impl Outcome {
+    // A whole file or result is refused: no single line is meant.
+    pub(crate) fn refused_whole(fault: FileFault) -> Self
+        ensures { λ r. ⌜ r ≡ Outcome.Refused (Fault.File fault) 0 ⌝ }
+    {
+        Outcome::Refused(Fault::File(fault), 0)
+    }
+
     // The refusal's number; 0 where nothing is refused.
     pub fn number(self) -> u16
         ensures { λ r. ⌜ r ≡ answerNumber self ⌝ }

@@ -30,7 +30,7 @@ fn room_for(lines: usize, room: usize) -> Outcome
     if COLUMNS * (lines + 1) <= room {
         Outcome::Accepted
     } else {
-        Outcome::Refused(Fault::File(FileFault::ResultTooShort), 0)
+        Outcome::refused_whole(FileFault::ResultTooShort)
     }
 }
 
@@ -42,10 +42,10 @@ pub(crate) fn by_files(b: &[u8], s: &[u8], room: usize) -> Outcome
         if sheet_ok(s) {
             room_for(line_count(s), room)
         } else {
-            Outcome::Refused(Fault::File(FileFault::SheetMalformed), 0)
+            Outcome::refused_whole(FileFault::SheetMalformed)
         }
     } else {
-        Outcome::Refused(Fault::File(FileFault::BookMalformed), 0)
+        Outcome::refused_whole(FileFault::BookMalformed)
     }
 }
 

@@ -1,0 +1,30 @@
+-- By cases on the treatment. The numbers of a treatment in a good row are admissible, so that the amounts are worked from them.
+use mathlib.Core.Path.{sym, _∙_}
+use borrow.Author.Needs.{needs}
+use Rattle.desk.proofs.LawAccount.{treatment-admissible}
+use Rattle.desk.proofs.account.by_treatment.Statement.{statement}
+use Rattle.desk.proofs.account.by_treatment.Tie as tie
+
+treatment-of-requires : tie.Need-treatment-of-requires
+treatment-of-requires c κs = c .before .before .pre .small
+
+generated-requires : tie.Need-generated-requires
+generated-requires c κs = record { coefficient = c .before .before .before .before .before .before .pre .good .coefficient; activity = c .before .before .before .before .before .before .pre .activity }
+
+amounts-of-requires : tie.Need-amounts-of-requires
+amounts-of-requires c κs =
+    let able = c .before .before .before .before .before .before .before .before .pre in
+    treatment-admissible _ (able .reuse) _ _ (able .good) _ _ _ _ _ (sym (c .before .before .before .before .before .treatment-of .ensures) ∙ c .before .before .before .efficiency .given .1)
+
+returns : tie.Need-returns
+returns c = rw (← c .before .before .before .treatment-of .ensures, c .before .fault .given .1)
+
+returns-2 : tie.Need-returns-2
+returns-2 c =
+    rw (← c .before .before .before .before .before .before .before .treatment-of .ensures, c .before .before .before .before .before .efficiency .given .1, ← c .before .before .before .generated .ensures, c .row-from .ensures, c .before .amounts-of .ensures)
+
+pub by-treatment-spec : {M : Type 1} → statement M
+by-treatment-spec =
+    tie.close
+    (tie.spec treatment-of-requires (λ c. search needs) (λ c. search needs) generated-requires amounts-of-requires
+    (λ c κs. search needs) returns returns-2)

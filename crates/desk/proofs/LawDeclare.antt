@@ -9,7 +9,6 @@ use native.Mathlib.Nat.{le-of-suc-le-suc, eq-or-lt-of-le, div-add-mod', mod-lt, 
 use lib.ListN.{length, take, drop, replicate, length-append, List·getD-append}
 use lib.Seq.{getD-append-add, take-at}
 use lib.Dec.{eqb, lit<, lit≤}
-use Rattle.search.proofs.LawTest.{clash}
 use Rattle.settle.specs.Shown.{at, Whole, sum, Sums, Shown}
 use Rattle.settle.specs.Table.{limit, Good}
 use Rattle.settle.specs.Step.{shownTable}
@@ -23,7 +22,9 @@ use Rattle.desk.specs.Sheet.{sheetHeader, lineCount, sheetOk, mostLines}
 use Rattle.desk.specs.Account.{lineOutcome}
 use Rattle.desk.specs.Cells.{width, tableSize, cellsOf}
 use Rattle.desk.specs.Table.{rowGiven, rows, total, tableOf, cellsAfter}
-use Rattle.desk.specs.Declare.{gram, kilogram, tonne, unitOf, unitOfSheet, shownAfter, BothAfter}
+use Rattle.desk.specs.Unit.{gram, kilogram, tonne, unitOf, unitOfSheet}
+use Rattle.desk.specs.Demands.{Demand3}
+use Rattle.desk.specs.Declare.{shownAfter, BothAfter}
 use Rattle.desk.specs.Inner.{Showable, shownOver}
 use Rattle.desk.specs.declared.answer.Fault.{Fault}
 use Rattle.desk.specs.declared.answer.Outcome.the-variants.{Accepted, Refused}
@@ -151,7 +152,7 @@ module _ (f : Lent) (good : bookOk (f .book) ≡ true) (right : sheetOk (f .shee
   few : lineCount (f .sheet) ≤ mostLines
   few = lines-few (f .sheet) right
 
-  settles : Good (unitOfSheet (f .sheet)) width (lineCount (f .sheet) + 1) (tableOf (lineCount (f .sheet)) (lineOutcome f))
+  pub settles : Good (unitOfSheet (f .sheet)) width (lineCount (f .sheet) + 1) (tableOf (lineCount (f .sheet)) (lineOutcome f))
   settles = can-be-settled (lineOutcome f) (lineCount (f .sheet)) (line-balances f good) few (sheetHeader (f .sheet) .shownUnit)
 
   module _ (n W : ℕ) (exact exact' : List ℕ) (e : n ≡ lineCount (f .sheet)) (u : W ≡ unitOfSheet (f .sheet))
@@ -171,23 +172,27 @@ module _ (f : Lent) (good : bookOk (f .book) ≡ true) (right : sheetOk (f .shee
           good = rw (here, u, e) settles;
         }
 
-    -- what it gives
-    pub both-accepted : (shown shown' : List ℕ) → shown' ≡ shownOver W n exact' shown → BothAfter f exact shown Accepted exact' shown'
-    unfolding cellsAfter shownAfter
-    both-accepted shown shown' s =
-        let K = lineCount (f .sheet) + 1 in
-        let t = tableOf (lineCount (f .sheet)) (lineOutcome f) in
-        let D = unitOfSheet (f .sheet) in
-        let past = drop (tableSize (lineCount (f .sheet))) shown in
-        let is : shown' ≡ shownTable D width K t ++ past = rw (here, u, e) at s in
-        let law = shown-more D width K t settles (shownTable D width K t) past (shown-length D width K t settles) (shown-law D width K t settles) in
-        record {
-          table = a;
-          shows = is;
-          allowed = λ q. rw (a, is) (shown-over D K t (drop (tableSize (lineCount (f .sheet))) exact) (shownTable D width K t ++ past) (table-size (lineOutcome f) (lineCount (f .sheet))) law);
-        }
+    module _ (shown shown' : List ℕ) (s : shown' ≡ shownOver W n exact' shown) where
+      -- what it gives
+      is-shown : shown' ≡ shownAfter Accepted f shown
+      unfolding shownAfter
+      is-shown = rw (here, u, e) at s
+
+      pub tables-shown : BothAfter f exact shown Accepted exact' shown'
+      tables-shown = record { table = a; shows = is-shown }
+
+      pub allows : Demand3 f exact' shown'
+      unfolding cellsAfter shownAfter
+      allows =
+          let lines = lineCount (f .sheet) in
+          let t = tableOf lines (lineOutcome f) in
+          let unit = unitOfSheet (f .sheet) in
+          let table = shownTable unit width (lines + 1) t in
+          let past = drop (tableSize lines) shown in
+          let law = shown-more unit width (lines + 1) t settles table past (shown-length unit width (lines + 1) t settles) (shown-law unit width (lines + 1) t settles) in
+          rw (a, is-shown) (shown-over unit (lines + 1) t (drop (tableSize lines) exact) (table ++ past) (table-size (lineOutcome f) lines) law)
 
 pub both-refused : (f : Lent) (fault : Fault) (line : ℕ) (exact shown exact' shown' : List ℕ) → exact' ≡ replicate (length exact) 0
     → shown' ≡ replicate (length shown) 0 → BothAfter f exact shown (Refused fault line) exact' shown'
 unfolding cellsAfter shownAfter
-both-refused f fault line exact shown exact' shown' e s = record { table = e; shows = s; allowed = λ a. clash (cc) }
+both-refused f fault line exact shown exact' shown' e s = record { table = e; shows = s }

@@ -7,3 +7,4 @@ pub mod LawReading
 pub mod LawAccount
 pub mod LawTable
 pub mod LawDeclare
+pub mod LawDemands

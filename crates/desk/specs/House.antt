@@ -1,4 +1,4 @@
--- What holds of every house file: it has its header, it is within the limit, and its whole length, stated at its origin, is the bytes given.
+-- What holds of every house file: it has its header, is within the limit, and states at its origin as its whole length the bytes given.
 use Prim.Native.Nat.{ℕ}
 use mathlib.Core.Bool.{Bool}
 use mathlib.Core.List.{List, [], _∷_}
@@ -12,4 +12,5 @@ abbrev pub mostBytes : ℕ
 mostBytes = 65536
 
 unfoldable pub fileOk : (file : List ℕ) (origin header : ℕ) → Bool
-fileOk file origin header = every (leb header (length file) ∷ leb (length file) mostBytes ∷ eqb (u32At file origin) (length file) ∷ [])
+fileOk file origin header =
+    every (leb header (length file) ∷ leb (length file) mostBytes ∷ eqb (u32At file origin) (length file) ∷ [])

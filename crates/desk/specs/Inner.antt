@@ -1,4 +1,4 @@
--- What private functions ask and answer, beside what a promise says: bounds, and the halves of a proof. Nothing here is needed to read a promise.
+-- What private functions ask and answer, beside what a promise says. Nothing here is needed to read a promise.
 use Prim.Native.Nat.{ℕ, _+_, _≤_, _<_}
 use mathlib.Core.Path.{_≡_}
 use mathlib.Core.Bool.{Bool, true, false}
@@ -17,6 +17,7 @@ use Rattle.desk.specs.Lent.{Lent}
 use Rattle.desk.specs.Cells.{width, tableSize, cellsOf}
 use Rattle.desk.specs.Account.{lineOutcome}
 use Rattle.desk.specs.Table.{byLines, cellsAfter}
+use Rattle.desk.specs.Demands.{Demand3}
 use Rattle.desk.specs.Declare.{BothAfter}
 use Rattle.desk.specs.declared.key.Key.{Key}
 use Rattle.desk.specs.declared.line.Line.{Line}
@@ -25,6 +26,7 @@ use Rattle.desk.specs.declared.row.RowSearch.{RowSearch}
 use Rattle.desk.specs.declared.row.RowSearch.the-variants.{Hit, Miss}
 use Rattle.desk.specs.declared.account.LineOutcome.{LineOutcome}
 use Rattle.desk.specs.declared.answer.Outcome.{Outcome}
+use Rattle.desk.specs.declared.answer.Outcome.the-variants.{Accepted}
 use Rattle.desk.specs.declared.cells.TableRow.{TableRow}
 use Rattle.desk.specs.declared.tally.Tally.{Tally}
 
@@ -134,4 +136,5 @@ shownOver unit lines exact shown = shownTable unit width (lines + 1) (take (tabl
 -- the promise where rules 1, 2 and 3 leave it to the lines
 pub record LinesDeclared (f : Lent) (exact shown : List ℕ) (r : Outcome) (exact' shown' : List ℕ) : Type 0 where
   pub answer : r ≡ byLines (lineCount (f .sheet)) (lineOutcome f)
-  pub cells : BothAfter f exact shown r exact' shown'
+  pub tables : BothAfter f exact shown r exact' shown'
+  pub allowed : r ≡ Accepted → Demand3 f exact' shown'

@@ -5,6 +5,7 @@ pub mod Book
 pub mod Row
 pub mod Technique
 pub mod Sheet
+pub mod Unit
 pub mod Reading
 pub mod Line
 pub mod Cells
@@ -12,6 +13,7 @@ pub mod Account
 pub mod Answer
 pub mod Tally
 pub mod Table
+pub mod Demands
 pub mod Declare
 pub mod Inner
 pub mod InnerRun

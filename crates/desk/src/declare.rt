@@ -3,36 +3,15 @@ ghost use mathlib.Core.Path.{_≡_};
 ghost use Prim.Native.Nat.{min};
 ghost use lib.ListN.{length};
 ghost use Rattle.desk.specs.Lent.{lent};
-ghost use Rattle.desk.specs.Declare.{unitOfSheet, Declared};
+ghost use Rattle.desk.specs.Declare.{Declared};
 ghost use Rattle.desk.specs.Inner.{Ready, Showable, shownOver, LinesDeclared};
 use super::answer::Outcome;
 use super::cells::COLUMNS;
 use super::sheet::line_count;
 use super::table::by_files;
 use super::table::fill;
+use super::unit::unit_of;
 use little::cells::clear;
-use little::read::u32_at;
-
-// One unit is 10 micrograms.
-pub const GRAM: u64 = 100_000;
-
-pub const KILOGRAM: u64 = 100_000_000;
-
-pub const TONNE: u64 = 100_000_000_000;
-
-// W, the shown unit of a sheet in units of 10 micrograms. Of a code that no good sheet has, a tonne.
-pub fn unit_of(s: &[u8]) -> u64
-    ensures { λ r. ⌜ r ≡ unitOfSheet (now (s .entry)) ⌝ }
-{
-    let code = u32_at(s, 12);
-    if code == 1 {
-        return GRAM;
-    }
-    if code == 2 {
-        return KILOGRAM;
-    }
-    TONNE
-}
 
 fn shorter(a: usize, b: usize) -> usize
     ensures { λ r. ⌜ r ≡ min a b ⌝ }

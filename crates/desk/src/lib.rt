@@ -14,3 +14,4 @@ pub mod sheet;
 pub mod table;
 mod tally;
 mod technique;
+pub mod unit;

@@ -1,4 +1,4 @@
--- `desk::account::amounts_of` meets its contract. Assumes nothing.
+-- Admissible numbers are worked to a line, so that the answer `Bad` does not come.
 use borrow.Author.Needs.{needs}
 use Rattle.desk.proofs.LawAccount.{line-worked, never-bad}
 use Rattle.desk.proofs.account.amounts_of.Statement.{statement}

@@ -1,4 +1,4 @@
--- `desk::account::generated` meets its contract. Assumes nothing.
+-- The product of two limits fits 64 bits; the basis picks the factor.
 use borrow.Author.Tests.{eq-eqb, ne-eqb}
 use Rattle.little.proofs.LawNumber.{product-fits}
 use Rattle.desk.specs.Book.{mostCoefficient}

@@ -1,4 +1,4 @@
--- `desk::account::line_outcome` meets its contract. Assumes nothing.
+-- The line is read, and then accounted for.
 use borrow.Author.Needs.{needs}
 use Rattle.desk.specs.Account.{lineOutcome}
 use Rattle.desk.proofs.account.line_outcome.Statement.{statement}

@@ -1,4 +1,4 @@
--- `desk::account::treated` meets its contract. Assumes nothing.
+-- By cases on the share.
 use borrow.Author.Needs.{needs}
 use Rattle.desk.proofs.account.treated.Statement.{statement}
 use Rattle.desk.proofs.account.treated.Tie as tie

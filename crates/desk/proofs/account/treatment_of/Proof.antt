@@ -1,4 +1,4 @@
--- `desk::account::treatment_of` meets its contract. Assumes nothing.
+-- Each answer stands behind the tests that lead to it; a place in the list is small, so that the technique's index is too.
 use native.Mathlib.Omega.{arith}
 use borrow.Author.Tests.{eq-eqb, ne-eqb}
 use borrow.Author.Needs.{needs}

@@ -1,4 +1,4 @@
--- `desk::book::book_ok` meets its contract. Assumes nothing.
+-- Where the header is right there are few enough techniques for the table of runs, and with it every row is checked.
 use mathlib.Core.Path.{sym, _∙_}
 use native.Mathlib.Omega.{arith}
 use borrow.Author.Needs.{needs}

@@ -1,4 +1,4 @@
--- `desk::book::coefficient_at` meets its contract. Assumes nothing.
+-- The row's unit and places give a power of ten from the table, and 32 bits times 10^8 fit 64.
 use native.Mathlib.Omega.{arith}
 use borrow.Author.Needs.{needs}
 use Rattle.little.proofs.LawNumber.{product-fits}

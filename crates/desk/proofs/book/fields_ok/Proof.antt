@@ -1,4 +1,4 @@
--- `desk::book::fields_ok` meets its contract. Assumes nothing.
+-- One expression without branches: the list of conditions in the same order.
 use borrow.Author.Needs.{needs}
 use Rattle.search.specs.Test.{every}
 use Rattle.desk.specs.Book.{fieldsOk}

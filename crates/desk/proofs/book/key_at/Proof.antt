@@ -1,4 +1,4 @@
--- `desk::book::key_at` meets its contract. Assumes nothing.
+-- The key is read from the row's own bytes.
 use borrow.Author.Needs.{needs}
 use Rattle.desk.proofs.book.key_at.Statement.{statement}
 use Rattle.desk.proofs.book.key_at.Tie as tie

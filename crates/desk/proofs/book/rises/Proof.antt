@@ -1,4 +1,4 @@
--- `desk::book::rises` meets its contract. Assumes nothing.
+-- Row 0 has none before it; any other is compared with the one before.
 use borrow.Author.Tests.{eq-eqb, ne-eqb}
 use borrow.Author.Needs.{needs}
 use Rattle.desk.specs.Book.{rises}

@@ -1,4 +1,4 @@
--- `desk::book::row_ok` meets its contract. Assumes nothing.
+-- A list of techniques is right exactly where it is no longer than the run from its first one on.
 use mathlib.Core.Path.{sym, _∙_}
 use native.Mathlib.Omega.{arith}
 use borrow.Author.Needs.{needs}

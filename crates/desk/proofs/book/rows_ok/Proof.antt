@@ -1,4 +1,4 @@
--- `desk::book::rows_ok` meets its contract. Assumes nothing.
+-- The invariant: all rows so far are right, exactly where `ok` says so.
 use Prim.Native.Nat.{_≤_, _-_}
 use mathlib.Core.Path.{_≡_}
 use borrow.Author.Needs.{needs}

@@ -1,4 +1,4 @@
--- `desk::book::technique_block` meets its contract. Assumes nothing.
+-- The part from the offset that the header states, of as many techniques as it counts.
 use borrow.Author.Needs.{needs}
 use Rattle.desk.specs.Book.{techniqueBlock}
 use Rattle.desk.proofs.book.technique_block.Statement.{statement}

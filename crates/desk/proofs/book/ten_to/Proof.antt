@@ -1,4 +1,4 @@
--- `desk::book::ten_to` meets its contract. Assumes nothing.
+-- The table holds the powers of ten: one computed test over all its entries.
 use native.Mathlib.Omega.{arith}
 use borrow.Author.Needs.{needs}
 use Rattle.desk.proofs.LawBook.{ten-is, ten-most}

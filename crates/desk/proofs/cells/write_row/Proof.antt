@@ -1,4 +1,4 @@
--- `desk::cells::write_row` meets its contract. Assumes nothing.
+-- As many stores as the part has cells.
 use borrow.Author.Needs.{needs}
 use denote.Ref.{now}
 use Rattle.desk.proofs.LawTable.{four-sets}

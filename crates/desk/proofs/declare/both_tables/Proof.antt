@@ -2,9 +2,10 @@
 use mathlib.Core.Path.{sym, _∙_}
 use native.Mathlib.Omega.{arith}
 use borrow.Author.Needs.{needs}
+use Rattle.search.proofs.LawTest.{clash}
 use Rattle.desk.specs.Table.{cellsAfter}
 use Rattle.desk.proofs.LawTable.{lines-few}
-use Rattle.desk.proofs.LawDeclare.{showable, both-accepted, both-refused}
+use Rattle.desk.proofs.LawDeclare.{showable, tables-shown, allows, both-refused}
 use Rattle.desk.proofs.declare.both_tables.Statement.{statement}
 use Rattle.desk.proofs.declare.both_tables.Tie as tie
 
@@ -28,7 +29,11 @@ returns c =
     let lines = c .before .before .before .before .before .before .before .before .before .before .before .line-count .ensures .eq in
     let filled = rw lines at (c .before .before .before .before .before .before .before .before .before .fill .ensures) in
     let refused = c .before .before .before .before .before .fault .given .1 in
-    record { answer = sym refused ∙ filled .answer; cells = both-refused _ _ _ _ _ _ _ (rw refused at (filled .table)) (c .before .before .clear .ensures) }
+    record {
+      answer = sym refused ∙ filled .answer;
+      tables = both-refused _ _ _ _ _ _ _ (rw refused at (filled .table)) (c .before .before .clear .ensures);
+      allowed = λ accepted. clash (cc);
+    }
 
 returns-2 : tie.Need-returns-2
 returns-2 c =
@@ -37,9 +42,12 @@ returns-2 c =
     let filled = rw lines at (c .before .before .before .before .before .before .before .before .before .before .fill .ensures) in
     let told = c .before .before .before .before .before .before .enum-told .given .1 in
     let accepted = rw told at (filled .table) in
+    let unit = c .before .before .before .before .before .unit-of .ensures in
+    let shown = c .before .before .show .ensures in
     record {
       answer = sym told ∙ filled .answer;
-      cells = both-accepted _ (ready .book) (ready .sheet) _ _ _ _ lines (c .before .before .before .before .before .unit-of .ensures) accepted _ _ (c .before .before .show .ensures);
+      tables = tables-shown _ (ready .book) (ready .sheet) _ _ _ _ lines unit accepted _ _ shown;
+      allowed = λ _. allows _ (ready .book) (ready .sheet) _ _ _ _ lines unit accepted _ _ shown;
     }
 
 pub both-tables-spec : {M : Type 1} → statement M

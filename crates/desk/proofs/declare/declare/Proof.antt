@@ -1,9 +1,11 @@
 -- What the files are refused for decides, and where it is nothing the lines do.
 use mathlib.Core.Path.{sym, _∙_}
 use borrow.Author.Needs.{needs}
+use Rattle.search.proofs.LawTest.{clash}
 use Rattle.desk.specs.Table.{answerOf}
 use Rattle.desk.proofs.LawTable.{ready}
 use Rattle.desk.proofs.LawDeclare.{both-refused}
+use Rattle.desk.proofs.LawDemands.{declared}
 use Rattle.desk.proofs.declare.declare.Statement.{statement}
 use Rattle.desk.proofs.declare.declare.Tie as tie
 
@@ -13,16 +15,19 @@ both-tables-requires c κs = rw (c .before .before .before .before .before .shor
 returns : tie.Need-returns
 unfolding answerOf
 returns c =
-    record {
-      answer = rw (← c .before .before .before .before .before .before .before .before .before .before .before .before .shorter .ensures, ← c .before .before .before .before .before .before .before .before .before .before .before .by-files .ensures, c .before .before .before .before .before .before .before .before .before .fault .given .1);
-      cells = both-refused _ _ _ _ _ _ _ (c .before .before .before .before .before .before .clear .ensures) (c .before .before .clear2 .ensures);
-    }
+    let room = c .before .before .before .before .before .before .before .before .before .before .before .before .shorter .ensures in
+    let files = c .before .before .before .before .before .before .before .before .before .before .before .by-files .ensures in
+    declared _ _ _ _ _ _ (rw (← room, ← files, c .before .before .before .before .before .before .before .before .before .fault .given .1))
+    (both-refused _ _ _ _ _ _ _ (c .before .before .before .before .before .before .clear .ensures) (c .before .before .clear2 .ensures))
+    (λ accepted. clash (cc))
 
 returns-2 : tie.Need-returns-2
 unfolding answerOf
 returns-2 c =
-    let both = c .before .before .before .before .both-tables .ensures in
-    record { answer = rw (← c .before .before .before .before .before .before .before .before .before .before .shorter .ensures, ← c .before .before .before .before .before .before .before .before .before .by-files .ensures, c .before .before .before .before .before .before .before .enum-told .given .1) (both .answer); cells = both .cells }
+    let room = c .before .before .before .before .before .before .before .before .before .before .shorter .ensures in
+    let files = c .before .before .before .before .before .before .before .before .before .by-files .ensures in
+    let lines = c .before .before .before .before .both-tables .ensures in
+    declared _ _ _ _ _ _ (rw (← room, ← files, c .before .before .before .before .before .before .before .enum-told .given .1) (lines .answer)) (lines .tables) (lines .allowed)
 
 pub declare-spec : {M : Type 1} → statement M
 declare-spec =

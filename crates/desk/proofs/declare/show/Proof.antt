@@ -1,4 +1,4 @@
--- `desk::declare::show` meets its contract: the table is good, so that it is settled. Assumes nothing.
+-- The table is good and there is room for it, so that it is settled.
 use native.Mathlib.Omega.{arith}
 use borrow.Author.Needs.{needs}
 use Rattle.desk.proofs.LawDeclare.{settled-cells}

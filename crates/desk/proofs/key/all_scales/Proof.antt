@@ -1,4 +1,4 @@
--- `desk::key::all_scales` meets its contract. Assumes nothing.
+-- Field by field.
 use mathlib.Core.Path.{refl}
 use Rattle.desk.specs.Key.{allScales}
 use Rattle.desk.proofs.key.all_scales.Statement.{statement}

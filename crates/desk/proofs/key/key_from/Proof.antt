@@ -1,4 +1,4 @@
--- `desk::key::key_from` meets its contract. Assumes nothing.
+-- Field by field, each read where it stands.
 use borrow.Author.Needs.{needs}
 use Rattle.desk.specs.Key.{keyFrom}
 use Rattle.desk.proofs.key.key_from.Statement.{statement}

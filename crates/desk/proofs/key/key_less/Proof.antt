@@ -1,4 +1,4 @@
--- `desk::key::key_less` meets its contract. Assumes nothing.
+-- The code's nested tests are the dictionary order of the fields, up to a last `and false`.
 use mathlib.Core.Bool.{and-false, or-false}
 use Rattle.desk.specs.Key.{keyLess}
 use Rattle.desk.proofs.key.key_less.Statement.{statement}

@@ -1,4 +1,4 @@
--- `desk::key::key_same` meets its contract. Assumes nothing.
+-- One expression without branches: the fields in the same order.
 use Rattle.search.specs.Test.{every}
 use Rattle.desk.specs.Key.{keySame}
 use Rattle.desk.proofs.key.key_same.Statement.{statement}

@@ -1,4 +1,4 @@
--- `desk::line::float_at` meets its contract. Assumes nothing.
+-- The eight bytes are the float's pattern.
 use borrow.Author.Needs.{needs}
 use Rattle.desk.proofs.line.float_at.Statement.{statement}
 use Rattle.desk.proofs.line.float_at.Tie as tie

@@ -1,4 +1,4 @@
--- `desk::line::line_of` meets its contract. Assumes nothing.
+-- Field by field, from where the line starts.
 use borrow.Author.Needs.{needs}
 use Rattle.desk.specs.Line.{lineOf}
 use Rattle.desk.proofs.line.line_of.Statement.{statement}

@@ -1,4 +1,4 @@
--- `desk::reading::energy_share` meets its contract. Assumes nothing.
+-- Each of the three readings is taken or refused, in this order; two limits multiplied fit 64 bits.
 use mathlib.Core.Path.{sym, _∙_}
 use borrow.Author.Needs.{needs}
 use Rattle.little.proofs.LawNumber.{product-fits}

@@ -1,4 +1,4 @@
--- `desk::reading::goes_with` meets its contract. Assumes nothing.
+-- By cases on the reading.
 use borrow.Author.Needs.{needs}
 use Rattle.desk.specs.Reading.{goesWith}
 use Rattle.desk.proofs.reading.goes_with.Statement.{statement}

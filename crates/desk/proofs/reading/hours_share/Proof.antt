@@ -1,4 +1,4 @@
--- `desk::reading::hours_share` meets its contract. Assumes nothing.
+-- Both readings are taken or refused, in this order.
 use borrow.Author.Needs.{needs}
 use Rattle.desk.specs.Reading.{hoursShare}
 use Rattle.desk.proofs.LawReading.{not-taken, taken}

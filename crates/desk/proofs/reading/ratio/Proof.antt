@@ -1,4 +1,4 @@
--- `desk::reading::ratio` meets its contract. Assumes nothing.
+-- By the two tests.
 use borrow.Author.Tests.{eq-eqb, ne-eqb, le-leb, lt-leb}
 use Rattle.desk.specs.Reading.{ratio}
 use Rattle.desk.proofs.reading.ratio.Statement.{statement}

@@ -1,4 +1,4 @@
--- `desk::reading::share_of` meets its contract. Assumes nothing.
+-- By cases on the reading.
 use borrow.Author.Needs.{needs}
 use Rattle.desk.specs.Reading.{shareOf}
 use Rattle.desk.proofs.reading.share_of.Statement.{statement}

@@ -1,4 +1,4 @@
--- `desk::row::index_of` meets its contract: the row at the cut, or none. Assumes nothing.
+-- The row at the cut has the key, or no row has it.
 use mathlib.Core.Path.{sym, _∙_}
 use native.Mathlib.Omega.{arith}
 use borrow.Author.Needs.{needs}

@@ -1,4 +1,4 @@
--- `desk::row::row_at` meets its contract. Assumes nothing.
+-- Field by field; the list's place and length are u16.
 use borrow.Author.Needs.{needs}
 use Rattle.desk.specs.Row.{rowAt}
 use Rattle.desk.proofs.row.row_at.Statement.{statement}

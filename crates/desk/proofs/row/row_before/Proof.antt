@@ -1,4 +1,4 @@
--- `desk::row::row_before` meets its contract. Assumes nothing.
+-- The order of the keys.
 use Rattle.desk.specs.Inner.{rowBefore}
 use borrow.Author.Needs.{needs}
 use Rattle.desk.proofs.row.row_before.Statement.{statement}

@@ -1,4 +1,4 @@
--- `desk::row::row_has` meets its contract. Assumes nothing.
+-- The row's key is the one that is looked for.
 use borrow.Author.Needs.{needs}
 use Rattle.desk.specs.Row.{rowHas}
 use Rattle.desk.proofs.row.row_has.Statement.{statement}

@@ -1,4 +1,4 @@
--- `desk::row::row_index` meets its contract. Assumes nothing.
+-- The exact scale first, and where that is not found scale 0.
 use mathlib.Core.Path.{sym, _∙_}
 use borrow.Author.Needs.{needs}
 use Rattle.desk.specs.Row.{rowIndex}

@@ -1,4 +1,4 @@
--- `desk::row::row_of` meets its contract. Assumes nothing.
+-- A row that is found lies in the book, so that its fields are right and it can be read.
 use mathlib.Core.Path.{sym, _∙_}
 use borrow.Author.Needs.{needs}
 use Rattle.desk.specs.Row.{rowOf}

@@ -1,4 +1,4 @@
--- `desk::row::rows_before` meets its contract. The invariant: rows below `low` stand before the key, and none from `high` on does. Assumes nothing.
+-- The invariant: rows below `low` stand before the key, and none from `high` on does.
 use Prim.Native.Nat.{_+_, _-_, _/_, _<_}
 use mathlib.Core.Path.{sym, _∙_}
 use native.Mathlib.Omega.{arith}

@@ -1,4 +1,4 @@
--- `desk::run::fill_runs` meets its contract. The invariant: the runs from k on are filled in, and `run` is the one at k. Assumes nothing.
+-- The invariant: the runs from k on are filled in, and `run` is the one at k.
 use Prim.Native.Nat.{_-_, _≤_}
 use mathlib.Core.Path.{_≡_, _∙_}
 use native.Mathlib.Omega.{arith}
@@ -10,7 +10,12 @@ use Rattle.desk.proofs.run.fill_runs.Statement.{statement}
 use Rattle.desk.proofs.run.fill_runs.Tie as tie
 
 abbrev Inv-loop : tie.InvT-loop
-Inv-loop t size runs₀ k₀ run₀ runs k run = (k ≤ size) × (run ≡ runOf t (size - k) k) × (length runs ≡ length runs₀) × (size ≤ length runs) × Filled t size k runs
+Inv-loop t size runs₀ k₀ run₀ runs k run =
+    (k ≤ size)
+    × (run ≡ runOf t (size - k) k)
+    × (length runs ≡ length runs₀)
+    × (size ≤ length runs)
+    × Filled t size k runs
 
 abbrev μ-loop : tie.MeasureT-loop
 μ-loop t size runs₀ k₀ run₀ runs k run = k
@@ -25,7 +30,8 @@ run-before-requires c κs =
     (omega arith, omega (arith, run-most (z .args .t .now) (z .args .size - l .k) (l .k)))
 
 -- the run that is written
-run-here : (c : tie.After-run-before Inv-loop μ-loop) → c .run-before .result ≡ runOf (c .before .before .before .before .before .args .t .now) (c .before .before .before .before .before .args .size - (c .before .before .loop .k - 1)) (c .before .before .loop .k - 1)
+run-here : (c : tie.After-run-before Inv-loop μ-loop) → let args = c .before .before .before .before .before .args in
+    let k = c .before .before .loop .k in c .run-before .result ≡ runOf (args .t .now) (args .size - (k - 1)) (k - 1)
 run-here c =
     let l = c .before .before .loop in
     c .run-before .ensures ∙ run-next _ _ _ _ (c .before .loop-test .taken) (l .inv .0) (l .inv .1)
@@ -39,7 +45,9 @@ cast-runs c =
 loop-again : tie.Need-loop-again Inv-loop μ-loop
 loop-again c =
     let l = c .before .before .loop in
-    (omega arith, run-here c, length-set (l .runs) (l .k - 1) (c .run-before .result) ∙ l .inv .2, omega (arith, length-set (l .runs) (l .k - 1) (c .run-before .result)), filled-next _ _ (l .k) _ (l .runs) (c .before .loop-test .taken) (omega arith) (run-here c) (l .inv .4))
+    let same = length-set (l .runs) (l .k - 1) (c .run-before .result) in
+    let filled = filled-next _ _ (l .k) _ (l .runs) (c .before .loop-test .taken) (omega arith) (run-here c) (l .inv .4) in
+    (omega arith, run-here c, same ∙ l .inv .2, omega arith, filled)
 
 returns : tie.Need-returns Inv-loop μ-loop
 returns c = record { long = c .before .loop .inv .3; at = λ k l. c .before .loop .inv .4 k (omega arith) l }

@@ -1,4 +1,4 @@
--- `desk::run::list_ok` meets its contract. Assumes nothing.
+-- By the two tests, in the same order.
 use native.Mathlib.Omega.{arith}
 use borrow.Author.Needs.{needs}
 use borrow.Author.Tests.{eq-eqb, ne-eqb, le-leb, lt-leb}

@@ -1,4 +1,4 @@
--- `desk::run::run_before` meets its contract. Assumes nothing.
+-- By the two tests: a technique that is not lawful has no run, one that does not rise ends it.
 use borrow.Author.Needs.{needs}
 use borrow.Author.Tests.{lt-ltb, le-ltb}
 use Rattle.desk.specs.InnerRun.{lawful, runBefore}

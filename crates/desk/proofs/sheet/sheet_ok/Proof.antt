@@ -1,4 +1,4 @@
--- `desk::sheet::sheet_ok` meets its contract. Assumes nothing.
+-- Lines are looked at only where the header is right, as in the definition.
 use borrow.Author.Needs.{needs}
 use Rattle.desk.specs.Sheet.{sheetOk}
 use Rattle.desk.proofs.sheet.sheet_ok.Statement.{statement}

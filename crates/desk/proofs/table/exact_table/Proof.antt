@@ -1,4 +1,4 @@
--- `desk::table::exact_table` meets its contract. Assumes nothing.
+-- What the files are refused for decides, and where it is nothing the lines do.
 use mathlib.Core.Path.{sym, _∙_}
 use native.Mathlib.Omega.{arith}
 use borrow.Author.Needs.{needs}

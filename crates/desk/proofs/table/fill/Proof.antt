@@ -1,4 +1,4 @@
--- `desk::table::fill` meets its contract. Assumes nothing.
+-- The invariant: the rows of the lines so far stand, the tally is their sum, none of these lines is refused, and the rest is as it was.
 use Prim.Native.Nat.{ℕ, _≤_, _-_, _*_}
 use mathlib.Core.List.{_++_}
 use mathlib.Core.Path.{_≡_, sym, ap, _∙_}

@@ -1,4 +1,4 @@
--- `desk::technique::technique_index` meets its contract. Assumes nothing.
+-- The invariant: none of the techniques so far has the code.
 use Prim.Native.Nat.{_≤_, _-_}
 use mathlib.Core.Path.{sym, _∙_, _≡_}
 use native.Mathlib.Omega.{arith}

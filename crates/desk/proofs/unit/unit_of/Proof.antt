@@ -1,9 +1,9 @@
--- `desk::declare::unit_of` meets its contract. Assumes nothing.
+-- By the unit's code.
 use borrow.Author.Needs.{needs}
 use borrow.Author.Tests.{eq-eqb, ne-eqb}
-use Rattle.desk.specs.Declare.{unitOf}
-use Rattle.desk.proofs.declare.unit_of.Statement.{statement}
-use Rattle.desk.proofs.declare.unit_of.Tie as tie
+use Rattle.desk.specs.Unit.{unitOf}
+use Rattle.desk.proofs.unit.unit_of.Statement.{statement}
+use Rattle.desk.proofs.unit.unit_of.Tie as tie
 
 returns : tie.Need-returns
 unfolding unitOf

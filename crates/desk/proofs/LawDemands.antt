@@ -1,0 +1,284 @@
+-- The three demands hold of what the desk answers and leaves, because of which answer and which tables these are.
+use Prim.Native.Nat.{ℕ, zero, suc, _+_, _*_, _-_, _≤_, _<_, min}
+use mathlib.Core.Path.{_≡_, refl, sym, ap, _∙_}
+use mathlib.Core.Bool.{true, false}
+use mathlib.Core.List.{List, _++_, append-assoc}
+use mathlib.Core.Logic.{⊎-elim, _⊎_, inl, inr, _≢_}
+use native.Mathlib.Omega.{arith}
+use native.Mathlib.Nat.{le-of-suc-le-suc, eq-or-lt-of-le, not-suc-le-zero, mul-le-mul-right}
+use lib.Dec.{leb, ltb}
+use lib.ListN.{length, drop, replicate, List·getD-append}
+use lib.Seq.{drop-at}
+use borrow.Author.Tests.{ltb-false}
+use Rattle.search.proofs.LawTest.{clash, either-way}
+use Rattle.amounts.specs.Line.{wholeShare, amountsOf}
+use Rattle.amounts.specs.declared.line.Amounts.{Amounts}
+use Rattle.settle.specs.Shown.{at, sum}
+use Rattle.settle.specs.Step.{shownTable}
+use Rattle.settle.proofs.LawShown.{shown-length}
+use Rattle.desk.specs.Lent.{Lent}
+use Rattle.desk.specs.Book.{bookOk, techniqueBlock}
+use Rattle.desk.specs.Row.{rowOf}
+use Rattle.desk.specs.Line.{lineOf}
+use Rattle.desk.specs.Sheet.{sheetOk, lineCount, mostLines}
+use Rattle.desk.specs.Cells.{width, tableSize, cellsOf}
+use Rattle.desk.specs.Account.{treatmentOf, generatedOf, inWater, byTreatment, byRow, excessive, accountOf, lineOutcome}
+use Rattle.desk.specs.Answer.{answerNumber, answerLine}
+use Rattle.desk.specs.Table.{rowGiven, rows, total, tableOf, roomFor, byFiles, orLine, byLines, orElseLines, answerOf, cellsAfter}
+use Rattle.desk.specs.Unit.{unitOfSheet}
+use Rattle.desk.specs.Demands.{OfFile, OfLine, Demand1, LineDemand, cellAt, Demand2, Demand3}
+use Rattle.desk.specs.Declare.{shownAfter, BothAfter, Declared}
+use Rattle.desk.specs.Inner.{Ready}
+use Rattle.desk.specs.declared.line.Line.{Line}
+use Rattle.desk.specs.declared.row.Row.{Row}
+use Rattle.desk.specs.declared.row.RowSearch.{RowSearch}
+use Rattle.desk.specs.declared.row.RowSearch.the-variants.{Hit, Miss}
+use Rattle.desk.specs.declared.account.Treatment.{Treatment}
+use Rattle.desk.specs.declared.account.Treatment.the-variants.{By, NoTreatment}
+use Rattle.desk.specs.declared.account.LineOutcome.{LineOutcome}
+use Rattle.desk.specs.declared.account.LineOutcome.the-variants.{Given, Refusal}
+use Rattle.desk.specs.declared.answer.FileFault.{FileFault}
+use Rattle.desk.specs.declared.answer.FileFault.the-variants.{BookMalformed, SheetMalformed, ResultTooShort}
+use Rattle.desk.specs.declared.answer.LineFault.{LineFault}
+use Rattle.desk.specs.declared.answer.LineFault.the-variants as of
+use Rattle.desk.specs.declared.answer.Fault.{Fault}
+use Rattle.desk.specs.declared.answer.Fault.the-variants as fault
+use Rattle.desk.specs.declared.answer.Outcome.{Outcome}
+use Rattle.desk.specs.declared.answer.Outcome.the-variants.{Accepted, Refused}
+use Rattle.desk.specs.declared.cells.TableRow.{TableRow}
+use Rattle.desk.proofs.LawColumns.{sum-same}
+use Rattle.desk.proofs.LawAccount.{line-sound, line-balances}
+use Rattle.desk.proofs.LawTable.{ready, lines-few}
+use Rattle.desk.proofs.LawDeclare.{line-cell, table-size, sums-right, settles, first-cells}
+
+-- ---- demand 1: numbers and lines
+
+abbrev Numbered : (lines number line : ℕ) → Type 0
+Numbered lines number line = OfFile number line ⊎ OfLine lines number line
+
+file-numbered : (lines : ℕ) (k : FileFault) → Numbered lines (answerNumber (Refused (fault.File k) 0)) 0
+file-numbered lines BookMalformed = inl (record { first = omega arith; last = omega arith; none = refl })
+file-numbered lines SheetMalformed = inl (record { first = omega arith; last = omega arith; none = refl })
+file-numbered lines ResultTooShort = inl (record { first = omega arith; last = omega arith; none = refl })
+
+line-rules : (k : LineFault) (line : ℕ) → (4 ≤ answerNumber (Refused (fault.Line k) line)) × (answerNumber (Refused (fault.Line k) line) ≤ 11)
+line-rules of.ActivityTooLarge line = (omega arith, omega arith)
+line-rules of.ReuseTooLarge line = (omega arith, omega arith)
+line-rules of.NoRow line = (omega arith, omega arith)
+line-rules of.NoTechnique line = (omega arith, omega arith)
+line-rules of.WrongKind line = (omega arith, omega arith)
+line-rules of.BadReading line = (omega arith, omega arith)
+line-rules of.ZeroDivisor line = (omega arith, omega arith)
+line-rules of.KAboveOne line = (omega arith, omega arith)
+
+-- what is refused among n lines is a line of them
+abbrev LineOf : (n : ℕ) (r : Outcome) → Type 0
+LineOf n Accepted = Unit
+LineOf n (Refused k line) = OfLine n (answerNumber (Refused k line)) line
+
+one-more : (n : ℕ) (r : Outcome) (o : LineOutcome) → LineOf n r → LineOf (suc n) (orLine r o n)
+one-more n Accepted (Given row) h = tt
+one-more n Accepted (Refusal k) h = let rule = line-rules k (n + 1) in
+    record { first = rule .0; last = rule .1; some = omega arith; within = omega arith }
+one-more n (Refused k line) o h = record { first = h .first; last = h .last; some = h .some; within = omega (arith, h .within) }
+
+lines-numbered : (n : ℕ) (l : ℕ → LineOutcome) → LineOf n (byLines n l)
+unfolding byLines
+lines-numbered zero l = tt
+lines-numbered (suc n) l = one-more n (byLines n l) (l n) (lines-numbered n l)
+
+-- what is refused before the lines is a whole file or result
+abbrev FileOf : Outcome → Type 0
+FileOf Accepted = Unit
+FileOf (Refused k line) = (lines : ℕ) → Numbered lines (answerNumber (Refused k line)) line
+
+files-numbered : (f : Lent) (room : ℕ) → FileOf (byFiles f room)
+unfolding byFiles
+files-numbered f room =
+    either-way (bookOk (f .book))
+    (λ p. either-way (sheetOk (f .sheet))
+    (λ q. rw (p, q) (room-numbered (lineCount (f .sheet)) room))
+    (λ q. rw (p, q) (λ lines. file-numbered lines SheetMalformed)))
+    (λ p. rw p (λ lines. file-numbered lines BookMalformed))
+  where
+    room-numbered : (lines room : ℕ) → FileOf (roomFor lines room)
+    room-numbered lines room =
+        either-way (leb (tableSize lines) room) (λ p. rw p tt) (λ p. rw p (λ n. file-numbered n ResultTooShort))
+
+answer-numbered : (f : Lent) (room : ℕ) → answerOf f room ≢ Accepted
+    → Numbered (lineCount (f .sheet)) (answerNumber (answerOf f room)) (answerLine (answerOf f room))
+unfolding answerOf
+answer-numbered f room = go (byFiles f room) (byLines (lineCount (f .sheet)) (lineOutcome f)) (files-numbered f room) (lines-numbered (lineCount (f .sheet)) (lineOutcome f))
+  where
+    go : (files lines : Outcome) → FileOf files → LineOf (lineCount (f .sheet)) lines → orElseLines files lines ≢ Accepted
+        → Numbered (lineCount (f .sheet)) (answerNumber (orElseLines files lines)) (answerLine (orElseLines files lines))
+    go (Refused k line) lines h g refused = h (lineCount (f .sheet))
+    go Accepted (Refused k line) h g refused = inr g
+    go Accepted Accepted h g refused = absurd (refused refl)
+
+-- ---- demand 2: a line that gives a row
+
+abbrev RowDemand : (b : List ℕ) (line : Line) (row : TableRow) → Type 0
+RowDemand b line row = LineDemand b line (row .generated) (row .removed) (row .reused) (row .discharged)
+
+treatment-demand : (b : List ℕ) (line : Line) (row : Row) (k : Treatment) (given : TableRow) → bookOk b ≡ true → line .reuse ≤ wholeShare
+    → rowOf b (line .key) ≡ Hit row → treatmentOf (techniqueBlock b) row (line .technique) (line .reading) ≡ k
+    → byTreatment row line k ≡ Given given → RowDemand b line given
+treatment-demand b line row (NoTreatment fault) given good reuse hit by h = clash (cc)
+treatment-demand b line row (By e n d) given good reuse hit by h =
+    let a = amountsOf (generatedOf row line) e n d (line .reuse) (inWater line) in
+    let g : a .generated ≡ given .generated = cc in
+    let r : a .removed ≡ given .removed = cc in
+    let u : a .reused ≡ given .reused = cc in
+    let x : a .discharged ≡ given .discharged = cc in
+    rw (← g, ← r, ← u, ← x)
+    (record {
+      row = row;
+      efficiency = e;
+      n = n;
+      d = d;
+      found = hit;
+      treated = by;
+      generated = refl;
+      removed = refl;
+      reused = refl;
+      discharged = refl;
+      sound = line-sound b line row e n d good reuse hit by;
+    })
+
+row-demand : (b : List ℕ) (line : Line) (found : RowSearch) (given : TableRow) → bookOk b ≡ true → line .reuse ≤ wholeShare
+    → rowOf b (line .key) ≡ found → byRow (techniqueBlock b) line found ≡ Given given → RowDemand b line given
+row-demand b line Miss given good reuse e h = clash (cc)
+row-demand b line (Hit row) given good reuse e h = treatment-demand b line row _ given good reuse e refl h
+
+account-demand : (b : List ℕ) (line : Line) (given : TableRow) → bookOk b ≡ true → accountOf b line ≡ Given given → RowDemand b line given
+unfolding accountOf
+account-demand b line given good h =
+    either-way (excessive line)
+    (λ p. let r : Refusal of.ActivityTooLarge ≡ Given given = rw p at h in clash (cc))
+    (λ p. either-way (ltb wholeShare (line .reuse))
+    (λ q. let r : Refusal of.ReuseTooLarge ≡ Given given = rw (p, q) at h in clash (cc))
+    (λ q. row-demand b line (rowOf b (line .key)) given good (ltb-false wholeShare (line .reuse) q) refl (rw (p, q) at h)))
+
+-- every line of an accepted sheet gives a row
+both-given : (r : Outcome) (o : LineOutcome) (n : ℕ) → orLine r o n ≡ Accepted → (r ≡ Accepted) × ((row : TableRow) × (o ≡ Given row))
+both-given Accepted (Given row) n h = (refl, (row, refl))
+both-given Accepted (Refusal k) n h = clash (cc)
+both-given (Refused k line) o n h = clash (cc)
+
+all-given : (n : ℕ) (l : ℕ → LineOutcome) → byLines n l ≡ Accepted → (i : ℕ) → i < n → (row : TableRow) × (l i ≡ Given row)
+unfolding byLines
+all-given zero l h i k = absurd (not-suc-le-zero k)
+all-given (suc n) l h i k =
+    let g = both-given (byLines n l) (l n) n h in
+    ⊎-elim (λ (q : i ≡ n). (g .1 .0, ap l q ∙ g .1 .1)) (λ (m : i < n). all-given n l (g .0) i m) (eq-or-lt-of-le (le-of-suc-le-suc k))
+
+accepted-both : (files lines : Outcome) → orElseLines files lines ≡ Accepted → (files ≡ Accepted) × (lines ≡ Accepted)
+accepted-both Accepted lines h = (refl, h)
+accepted-both (Refused k line) lines h = clash (cc)
+
+accepted : (f : Lent) (room : ℕ) → answerOf f room ≡ Accepted → (byFiles f room ≡ Accepted) × (byLines (lineCount (f .sheet)) (lineOutcome f) ≡ Accepted)
+unfolding answerOf
+accepted f room h = accepted-both (byFiles f room) (byLines (lineCount (f .sheet)) (lineOutcome f)) h
+
+-- ---- the promise, from which answer and which tables these are
+
+module _ (f : Lent) (exact shown : List ℕ) (r : Outcome) (exact' shown' : List ℕ) where
+  module _ (answer : r ≡ answerOf f (min (length exact) (length shown))) (both : BothAfter f exact shown r exact' shown') where
+    module _ (yes : r ≡ Accepted) where
+      by-both : (byFiles f (min (length exact) (length shown)) ≡ Accepted) × (byLines (lineCount (f .sheet)) (lineOutcome f) ≡ Accepted)
+      by-both = accepted f _ (sym answer ∙ yes)
+
+      is-ready : Ready f (min (length exact) (length shown))
+      is-ready = ready f _ (by-both .0)
+
+      cells-are : exact' ≡ cellsAfter Accepted (lineCount (f .sheet)) (lineOutcome f) exact
+      cells-are = rw yes at (both .table)
+
+      line-given : (i : ℕ) (row : TableRow) → lineOutcome f i ≡ Given row → RowDemand (f .book) (lineOf (f .sheet) i) row
+      unfolding lineOutcome
+      line-given i row g = account-demand (f .book) (lineOf (f .sheet) i) row (is-ready .book) g
+
+      cell-is : (i j : ℕ) (row : TableRow) → i < lineCount (f .sheet) → j < width → lineOutcome f i ≡ Given row
+          → cellAt exact' i j ≡ at (cellsOf row) j
+      unfolding cellsAfter tableOf
+      cell-is i j row h k g =
+          let n = lineCount (f .sheet) in
+          let stands : cellAt exact' i j ≡ at (cellsOf (rowGiven (lineOutcome f i))) j = rw (cells-are, append-assoc) (line-cell (lineOutcome f) n i j _ h k) in
+          stands ∙ ap (λ (o : LineOutcome). at (cellsOf (rowGiven o)) j) g
+
+      line-demand : (i : ℕ) → i < lineCount (f .sheet)
+          → LineDemand (f .book) (lineOf (f .sheet) i) (cellAt exact' i 0) (cellAt exact' i 1) (cellAt exact' i 2) (cellAt exact' i 3)
+      line-demand i h =
+          let given = all-given (lineCount (f .sheet)) (lineOutcome f) (by-both .1) i h in
+          let row = given .0 in
+          let stands : (j : ℕ) → j < width → cellAt exact' i j ≡ at (cellsOf row) j = λ j k. cell-is i j row h k (given .1) in
+          rw (stands 0 (omega arith), stands 1 (omega arith), stands 2 (omega arith), stands 3 (omega arith)) (line-given i row (given .1))
+
+      totals-are : (j : ℕ) → j < width → cellAt exact' (lineCount (f .sheet)) j ≡ sum exact' j width (lineCount (f .sheet))
+      unfolding cellsAfter
+      totals-are j h =
+          let n = lineCount (f .sheet) in
+          let t = tableOf n (lineOutcome f) in
+          let past = drop (tableSize n) exact in
+          let size = table-size (lineOutcome f) n in
+          let few = lines-few (f .sheet) (is-ready .sheet) in
+          let less : n + 1 - 1 ≡ n = omega arith in
+          let right = rw less at (sums-right (lineOutcome f) n (line-balances f (is-ready .book)) few .columns j h) in
+          let here = List·getD-append t past 0 (n * width + j) (omega arith) in
+          let sums = sum-same (t ++ past) t j j width n
+          (λ k l. List·getD-append t past 0 (j + k * width) (omega (arith, mul-le-mul-right width l))) in
+          rw cells-are (here ∙ right ∙ sym sums)
+
+      demand-2 : Demand2 f exact'
+      demand-2 = record { lines = line-demand; totals = totals-are }
+
+      exact-past : drop (tableSize (lineCount (f .sheet))) exact' ≡ drop (tableSize (lineCount (f .sheet))) exact
+      unfolding cellsAfter
+      exact-past =
+          let n = lineCount (f .sheet) in
+          rw cells-are (drop-at (tableOf n (lineOutcome f)) (drop (tableSize n) exact) (tableSize n) (omega (arith, table-size (lineOutcome f) n)))
+
+      shown-past : drop (tableSize (lineCount (f .sheet))) shown' ≡ drop (tableSize (lineCount (f .sheet))) shown
+      unfolding shownAfter
+      shown-past =
+          let n = lineCount (f .sheet) in
+          let unit = unitOfSheet (f .sheet) in
+          let t = tableOf n (lineOutcome f) in
+          let size = shown-length unit width (n + 1) t (settles f (is-ready .book) (is-ready .sheet)) in
+          let shows = rw yes at (both .shows) in
+          rw shows (drop-at (shownTable unit width (n + 1) t) (drop (tableSize n) shown) (tableSize n) (omega arith))
+
+    module _ (no : r ≢ Accepted) where
+      exact-zero : exact' ≡ replicate (length exact) 0
+      unfolding cellsAfter
+      exact-zero = go r refl
+        where
+          go : (o : Outcome) → r ≡ o → exact' ≡ replicate (length exact) 0
+          go Accepted e = absurd (no e)
+          go (Refused k line) e = rw e at (both .table)
+
+      shown-zero : shown' ≡ replicate (length shown) 0
+      unfolding shownAfter
+      shown-zero = go r refl
+        where
+          go : (o : Outcome) → r ≡ o → shown' ≡ replicate (length shown) 0
+          go Accepted e = absurd (no e)
+          go (Refused k line) e = rw e at (both .shows)
+
+      is-numbered : OfFile (answerNumber r) (answerLine r) ⊎ OfLine (lineCount (f .sheet)) (answerNumber r) (answerLine r)
+      is-numbered = rw answer (answer-numbered f (min (length exact) (length shown)) (λ e. no (answer ∙ e)))
+
+    demand-1 : Demand1 f exact shown r exact' shown'
+    demand-1 =
+        record {
+          answer = answer;
+          numbered = is-numbered;
+          exactZero = exact-zero;
+          shownZero = shown-zero;
+          exactPast = exact-past;
+          shownPast = shown-past;
+        }
+
+    pub declared : (r ≡ Accepted → Demand3 f exact' shown') → Declared f exact shown r exact' shown'
+    declared allowed = record { demand1 = demand-1; demand2 = demand-2; demand3 = allowed; tables = both }

@@ -1,7 +1,7 @@
 //! Accounts for one sheet: `cargo run --example one_sheet -- BOOK SHEET`.
 //! Without file names it takes document 000's case from the examples folder.
 
-use checkraven::{account, Outcome, MOST_CELLS};
+use checkraven::{declare, Row};
 
 fn main() {
     let case = concat!(env!("CARGO_MANIFEST_DIR"), "/../examples/document-000");
@@ -10,12 +10,20 @@ fn main() {
     let book = std::fs::read(file("book.bin")).unwrap_or_default();
     let sheet = std::fs::read(file("sheet.bin")).unwrap_or_default();
 
-    let (mut exact, mut shown) = ([0; MOST_CELLS], [0; MOST_CELLS]);
-    match account(&book, &sheet, &mut exact, &mut shown) {
-        Outcome::Accepted => {
-            println!("line 1 exact: G {} R {} U {} D {}", exact[0], exact[1], exact[2], exact[3]);
-            println!("line 1 shown: G {} R {} U {} D {}", shown[0], shown[1], shown[2], shown[3]);
+    match declare(&book, &sheet) {
+        Ok(tables) => {
+            for line in tables.lines() {
+                print(&format!("line {}", line.number), line.exact, line.shown);
+            }
+            print("total", tables.total().exact, tables.total().shown);
         }
-        refusal => println!("{refusal}"),
+        Err(refused) => println!("{refused}: {}", refused.refusal),
+    }
+}
+
+fn print(name: &str, exact: Row, shown: Row) {
+    for (table, row) in [("exact", exact), ("shown", shown)] {
+        let Row { generated, removed, reused, discharged } = row;
+        println!("{name} {table}: G {generated} R {removed} U {reused} D {discharged}");
     }
 }

@@ -2,11 +2,17 @@
 //! tables, exact and shown.
 //!
 //! A sheet is one works' year for one pollutant in one medium. The desk itself
-//! is proved; this crate lends it slices and names its answer.
+//! is proved; this crate lends it memory and names its answer. [`declare`]
+//! lends memory of its own and gives rows; [`account`] takes the caller's.
 
 use std::fmt;
 
 mod desk;
+mod refusal;
+mod tables;
+
+pub use refusal::{Refusal, Refused};
+pub use tables::{Line, Row, Tables, Total, Unit};
 
 /// The most lines in a sheet.
 pub const MOST_LINES: usize = 128;
@@ -17,10 +23,10 @@ pub const MOST_CELLS: usize = cells_for(MOST_LINES);
 /// Cells that each result needs for a sheet of so many lines: four a line
 /// (generated, removed, reused, discharged) and a last row of sums.
 pub const fn cells_for(lines: usize) -> usize {
-    4 * (lines + 1)
+    tables::COLUMNS * (lines + 1)
 }
 
-/// What the desk answers.
+/// What the desk answers to [`account`].
 #[derive(Clone, Copy, Debug, PartialEq, Eq, Hash)]
 #[must_use = "the tables stand only if the sheet was accepted"]
 pub enum Outcome {
@@ -28,7 +34,7 @@ pub enum Outcome {
     Accepted,
     /// The first refusal; all cells of both lent results are zero.
     Refused {
-        /// The refusal number, 1 to 11.
+        /// The refusal number; [`Refusal::from_number`] has its name.
         number: u32,
         /// The sheet line, counted from 1; 0 where a whole file is refused.
         line: u32,
@@ -40,27 +46,38 @@ impl Outcome {
         self == Outcome::Accepted
     }
 
+    /// The refusal by its name, as an error.
+    pub fn accepted(self) -> Result<(), Refused> {
+        match self {
+            Outcome::Accepted => Ok(()),
+            Outcome::Refused { number, line } => {
+                Err(Refused { refusal: Refusal::from_number(number), line })
+            }
+        }
+    }
+
     /// Takes apart the desk's own number: 0, or refusal number * 65536 + line.
     fn from_answer(answer: u64) -> Self {
         match answer {
             0 => Outcome::Accepted,
-            _ => {
-                Outcome::Refused { number: (answer / 65536) as u32, line: (answer % 65536) as u32 }
-            }
+            _ => Outcome::Refused {
+                number: u32::try_from(answer / 65536).unwrap_or(u32::MAX),
+                line: (answer % 65536) as u32,
+            },
         }
     }
 }
 
 impl fmt::Display for Outcome {
     fn fmt(&self, out: &mut fmt::Formatter<'_>) -> fmt::Result {
-        match self {
-            Outcome::Accepted => write!(out, "accepted"),
-            Outcome::Refused { number, line } => write!(out, "refused {number} line {line}"),
+        match self.accepted() {
+            Ok(()) => write!(out, "accepted"),
+            Err(refused) => write!(out, "{refused}"),
         }
     }
 }
 
-/// Accounts for one sheet with one book.
+/// Accounts for one sheet with one book, in memory of the caller.
 ///
 /// If the sheet is accepted, the first `cells_for(lines)` cells of each result
 /// hold its table and further cells keep their values. The exact table counts
@@ -69,6 +86,18 @@ impl fmt::Display for Outcome {
 pub fn account(book: &[u8], sheet: &[u8], exact: &mut [u64], shown: &mut [u64]) -> Outcome {
     Outcome::from_answer(desk::account(book, sheet, exact, shown))
 }
+
+/// Accounts for one sheet with one book: both tables by rows, or the refusal.
+pub fn declare(book: &[u8], sheet: &[u8]) -> Result<Tables, Refused> {
+    let (mut exact, mut shown) = (vec![0; MOST_CELLS], vec![0; MOST_CELLS]);
+    account(book, sheet, &mut exact, &mut shown).accepted()?;
+    Ok(Tables::new(sheet, exact, shown))
+}
+
+/// The Rust on the project's first page is run as it stands there.
+#[cfg(doctest)]
+#[doc = include_str!("../../README.md")]
+struct FirstPage;
 
 #[cfg(test)]
 mod tests {
@@ -86,5 +115,13 @@ mod tests {
     #[test]
     fn outcomes_print_as_the_program_prints_them() {
         assert_eq!(Outcome::Refused { number: 6, line: 2 }.to_string(), "refused 6 line 2");
+        assert_eq!(Outcome::Refused { number: 77, line: 2 }.to_string(), "refused 77 line 2");
+    }
+
+    #[test]
+    fn an_outcome_leads_to_its_name() {
+        assert_eq!(Outcome::Accepted.accepted(), Ok(()));
+        let refused = Refused { refusal: Refusal::NoRow, line: 2 };
+        assert_eq!(Outcome::Refused { number: 6, line: 2 }.accepted(), Err(refused));
     }
 }

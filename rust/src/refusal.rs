@@ -1,0 +1,122 @@
+//! The refusals by their names.
+
+use std::error::Error;
+use std::fmt;
+
+/// Why a sheet is refused. Shown in the words of the rules.
+#[derive(Clone, Copy, Debug, PartialEq, Eq, Hash)]
+#[non_exhaustive]
+pub enum Refusal {
+    BookMalformed,
+    SheetMalformed,
+    ResultTooShort,
+    ActivityTooLarge,
+    ReuseTooLarge,
+    NoRow,
+    NoTechnique,
+    WrongKind,
+    BadReading,
+    ZeroDivisor,
+    KAboveOne,
+    /// A number that this crate has no name for: the library is newer than it.
+    Unnamed(u32),
+}
+
+impl Refusal {
+    /// All that have names, in the order in which they are looked for.
+    pub const NAMED: [Refusal; 11] = [
+        Refusal::BookMalformed,
+        Refusal::SheetMalformed,
+        Refusal::ResultTooShort,
+        Refusal::ActivityTooLarge,
+        Refusal::ReuseTooLarge,
+        Refusal::NoRow,
+        Refusal::NoTechnique,
+        Refusal::WrongKind,
+        Refusal::BadReading,
+        Refusal::ZeroDivisor,
+        Refusal::KAboveOne,
+    ];
+
+    pub fn from_number(number: u32) -> Self {
+        let named = Self::NAMED.into_iter().find(|refusal| refusal.number() == number);
+        named.unwrap_or(Refusal::Unnamed(number))
+    }
+
+    /// The number in the rules.
+    pub const fn number(self) -> u32 {
+        self.entry().0
+    }
+
+    const fn entry(self) -> (u32, &'static str) {
+        match self {
+            Refusal::BookMalformed => (1, "book malformed or over a limit"),
+            Refusal::SheetMalformed => {
+                (2, "sheet malformed, over a limit, or shown unit not 1 to 3")
+            }
+            Refusal::ResultTooShort => (3, "either result shorter than 4 × (lines + 1)"),
+            Refusal::ActivityTooLarge => (4, "product or material above 10^9 kg"),
+            Refusal::ReuseTooLarge => (5, "reuse above 1000, in any medium"),
+            Refusal::NoRow => (6, "no row"),
+            Refusal::NoTechnique => (7, "technique not in the row's list"),
+            Refusal::WrongKind => (8, "reading kind doesn't go with the k rule"),
+            Refusal::BadReading => (9, "a used reading is bad or over its limit"),
+            Refusal::ZeroDivisor => {
+                (10, "production hours, rated kW or energy run hours 0 as thousandths")
+            }
+            Refusal::KAboveOne => (11, "k above 1"),
+            Refusal::Unnamed(number) => (number, "a refusal that has no name here"),
+        }
+    }
+}
+
+impl fmt::Display for Refusal {
+    fn fmt(&self, out: &mut fmt::Formatter<'_>) -> fmt::Result {
+        out.pad(self.entry().1)
+    }
+}
+
+/// A refusal and the line it concerns. Shown as the program prints it.
+#[derive(Clone, Copy, Debug, PartialEq, Eq, Hash)]
+pub struct Refused {
+    pub refusal: Refusal,
+    /// The sheet line, counted from 1; 0 where a whole file is refused.
+    pub line: u32,
+}
+
+impl fmt::Display for Refused {
+    fn fmt(&self, out: &mut fmt::Formatter<'_>) -> fmt::Result {
+        write!(out, "refused {} line {}", self.refusal.number(), self.line)
+    }
+}
+
+impl Error for Refused {}
+
+#[cfg(test)]
+mod tests {
+    use super::*;
+
+    #[test]
+    fn names_and_numbers_lead_to_each_other() {
+        for (index, refusal) in Refusal::NAMED.into_iter().enumerate() {
+            assert_eq!(refusal.number() as usize, index + 1);
+            assert_eq!(Refusal::from_number(refusal.number()), refusal);
+        }
+    }
+
+    #[test]
+    fn a_number_without_a_name_is_kept() {
+        for number in [0, 12, 23, u32::MAX] {
+            assert_eq!(Refusal::from_number(number), Refusal::Unnamed(number));
+            assert_eq!(Refusal::from_number(number).number(), number);
+        }
+    }
+
+    #[test]
+    fn no_two_are_worded_alike() {
+        let words: Vec<String> = Refusal::NAMED.iter().map(Refusal::to_string).collect();
+        for (index, word) in words.iter().enumerate() {
+            assert!(!word.is_empty() && !words[..index].contains(word), "{word}");
+        }
+    }
+}

@@ -1,0 +1,38 @@
+//! The refusals here and in the C header: the same names, numbers and words.
+
+use checkraven::Refusal;
+use std::fs;
+
+/// Name, number and words of each refusal that the header defines.
+fn in_the_header() -> Vec<(String, u32, String)> {
+    let path = concat!(env!("CARGO_MANIFEST_DIR"), "/../include/checkraven.h");
+    let header = fs::read_to_string(path).expect("the header is there");
+    header.lines().filter_map(refusal_of_line).collect()
+}
+
+/// Of a line `#define CHECKRAVEN_NAME NUMBER /* words */`.
+fn refusal_of_line(line: &str) -> Option<(String, u32, String)> {
+    let (definition, words) = line.strip_prefix("#define CHECKRAVEN_")?.split_once("/*")?;
+    let (name, number) = definition.split_once(' ')?;
+    let words = words.trim_end_matches("*/").trim().replace(" * ", " × ");
+    Some((name.to_string(), number.trim().parse().ok()?, words))
+}
+
+/// `NoRow` as `NO_ROW`.
+fn as_in_c(name: &str) -> String {
+    let mut parts = String::new();
+    for letter in name.chars() {
+        if letter.is_uppercase() && !parts.is_empty() {
+            parts.push('_');
+        }
+        parts.extend(letter.to_uppercase());
+    }
+    parts
+}
+
+#[test]
+fn names_numbers_and_words_are_those_of_the_header() {
+    let here = Refusal::NAMED
+        .map(|refusal| (as_in_c(&format!("{refusal:?}")), refusal.number(), refusal.to_string()));
+    assert_eq!(here.to_vec(), in_the_header());
+}

@@ -8,3 +8,5 @@ pub mod LawAccount
 pub mod LawTable
 pub mod LawDeclare
 pub mod LawDemands
+pub mod LawOnce
+pub mod LawShutOut

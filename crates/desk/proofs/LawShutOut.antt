@@ -1,0 +1,112 @@
+-- What the promise shuts out, on a small book and two small sheets: versions that refuse everything, do nothing, have one constant table,
+-- copy line 1 down, or show zeros do not meet it.
+use Prim.Native.Nat.{ℕ, _+_, _<_}
+use mathlib.Core.Path.{_≡_, refl, sym, ap, _∙_}
+use mathlib.Core.List.{List, [], _∷_, _++_}
+use native.Mathlib.Omega.{arith}
+use lib.ListN.{replicate}
+use Rattle.search.proofs.LawTest.{clash}
+use Rattle.search.specs.First.{first}
+use Rattle.search.specs.Test.{all, every}
+use Rattle.little.specs.Read.{u16At, u32At, u64At}
+use Rattle.amounts.specs.Line.{removedOf, reusedOf, dischargedOf}
+use Rattle.settle.specs.Shown.{at}
+use Rattle.desk.specs.House.{fileOk}
+use Rattle.desk.specs.Key.{keyFrom, keySame}
+use Rattle.desk.specs.Book.{bookOk, bookHeaderOk, rowOk, fieldsOk, coefficientAt, techniquesOk, rises}
+use Rattle.desk.specs.Row.{rowHas, rowIndex, rowAt, rowOf}
+use Rattle.desk.specs.Sheet.{sheetOk, sheetHeaderOk, lineOk, lineCount}
+use Rattle.desk.specs.Line.{readingAt, lineOf}
+use Rattle.desk.specs.Cells.{width}
+use Rattle.desk.specs.Unit.{unitOf, unitOfSheet}
+use Rattle.desk.specs.Lent.{Lent, lent}
+use Rattle.desk.specs.Account.{treatmentOf, generatedOf, accountOf, lineOutcome}
+use Rattle.desk.specs.Table.{rows, total, tableOf, byFiles, byLines, answerOf, cellsAfter}
+use Rattle.desk.specs.Declare.{Declared}
+use Rattle.desk.specs.declared.answer.Fault.{Fault}
+use Rattle.desk.specs.declared.answer.Outcome.{Outcome}
+use Rattle.desk.specs.declared.answer.Outcome.the-variants.{Accepted, Refused}
+
+-- a book of one row: particulates in gas of industry 3240, 1 g/t of product (100 units a kilogram), no techniques
+abbrev book : List ℕ
+book =
+    (40 ∷ 0 ∷ 0 ∷ 0 ∷ 1 ∷ 0 ∷ 0 ∷ 0 ∷ 16 ∷ 0 ∷ 0 ∷ 0 ∷ 40 ∷ 0 ∷ 0 ∷ 0 ∷ 168 ∷ 12 ∷ 0 ∷ 0 ∷ 0 ∷ 0 ∷ 0 ∷ 0 ∷ 0 ∷ 0 ∷ 2 ∷ 3 ∷ 1 ∷ 1 ∷ 0 ∷
+    0 ∷ 1 ∷ 0 ∷ 0 ∷ 0 ∷ 0 ∷ 0 ∷ 0 ∷ 0 ∷ [])
+
+-- a line of direct discharge with so many kilograms of product, given by their two low bytes
+abbrev line : (low high : ℕ) → List ℕ
+line low high =
+    (168 ∷ 12 ∷ replicate 14 0) ++ ((low ∷ high ∷ []) ++ replicate 46 0)
+
+-- sheets in grams, of two lines each: 1,000 kg and 2,000 kg; 3,000 kg twice
+abbrev sheetOf : (lines : List ℕ) → List ℕ
+sheetOf lines = (144 ∷ 0 ∷ 0 ∷ 0 ∷ 2 ∷ 0 ∷ 2 ∷ 3 ∷ 16 ∷ 0 ∷ 0 ∷ 0 ∷ 1 ∷ 0 ∷ 0 ∷ 0 ∷ []) ++ lines
+
+abbrev one-and-two : Lent
+one-and-two = lent book (sheetOf (line 232 3 ++ line 208 7))
+
+abbrev three-twice : Lent
+three-twice = lent book (sheetOf (line 184 11 ++ line 184 11))
+
+-- both results are lent with twelve cells, each of which holds 7
+abbrev cells : List ℕ
+cells = replicate 12 7
+
+-- ---- what the desk answers, and the exact cells that it leaves
+
+abbrev oneAndTwo : List ℕ
+oneAndTwo = 100000 ∷ 0 ∷ 0 ∷ 100000 ∷ 200000 ∷ 0 ∷ 0 ∷ 200000 ∷ 300000 ∷ 0 ∷ 0 ∷ 300000 ∷ []
+
+abbrev threeTwice : List ℕ
+threeTwice = 300000 ∷ 0 ∷ 0 ∷ 300000 ∷ 300000 ∷ 0 ∷ 0 ∷ 300000 ∷ 600000 ∷ 0 ∷ 0 ∷ 600000 ∷ []
+
+worked : (answerOf one-and-two 12 ≡ Accepted) × (answerOf three-twice 12 ≡ Accepted)
+    × (cellsAfter Accepted (lineCount (one-and-two .sheet)) (lineOutcome one-and-two) cells ≡ oneAndTwo)
+    × (cellsAfter Accepted (lineCount (three-twice .sheet)) (lineOutcome three-twice) cells ≡ threeTwice)
+    × (unitOfSheet (one-and-two .sheet) ≡ 100000)
+unfolding answerOf byFiles bookOk bookHeaderOk fileOk every u32At u16At all rowOk fieldsOk coefficientAt techniquesOk rises sheetOk
+    sheetHeaderOk lineOk u64At byLines lineOutcome accountOf lineOf rowOf rowIndex first rowHas keySame keyFrom rowAt treatmentOf
+    generatedOf readingAt removedOf reusedOf dischargedOf cellsAfter tableOf rows total unitOf
+worked = (refl, refl, refl, refl, refl)
+
+-- ---- the versions
+
+-- one that refuses everything
+pub refuses-everything : (k : Fault) (n : ℕ) (x y : List ℕ) → Declared one-and-two cells cells (Refused k n) x y → ⊥
+refuses-everything k n x y p = let e : Refused k n ≡ Accepted = p .demand1 .answer ∙ worked .0 in clash (cc)
+
+module _ (r : Outcome) (x y : List ℕ) (p : Declared one-and-two cells cells r x y) where
+  accepted : r ≡ Accepted
+  accepted = p .demand1 .answer ∙ worked .0
+
+  figures : x ≡ oneAndTwo
+  figures =
+      p .tables .table
+      ∙ ap (λ (o : Outcome). cellsAfter o (lineCount (one-and-two .sheet)) (lineOutcome one-and-two) cells) accepted
+      ∙ worked .2
+
+  cell : (j : ℕ) → at x j ≡ at oneAndTwo j
+  cell j = ap (λ (t : List ℕ). at t j) figures
+
+  -- one that does nothing
+  pub does-nothing : x ≡ cells → ⊥
+  does-nothing same = let e : _≡_ {A = ℕ} 7 100000 = sym (ap (λ (t : List ℕ). at t 0) same) ∙ cell 0 in omega arith
+
+  -- one that accounts for line 1 and copies it down
+  pub copies-down : ((j : ℕ) → j < width → at x (width + j) ≡ at x j) → ⊥
+  copies-down down = omega (arith, down 0 (omega arith), cell 0, cell 4)
+
+  -- one that shows zeros
+  pub shows-zeros : ((j : ℕ) → at y j ≡ 0) → ⊥
+  shows-zeros zero =
+      let low = rw (worked .4, cell 0) at (p .demand3 accepted .cells 0 (omega arith) .low) in
+      omega (arith, zero 0)
+
+-- one constant table, whatever the sheet
+pub constant-table : (r q : Outcome) (x y z : List ℕ) → Declared one-and-two cells cells r x y → Declared three-twice cells cells q x z → ⊥
+constant-table r q x y z p h =
+    let yes : q ≡ Accepted = h .demand1 .answer ∙ worked .1 in
+    let three = h .tables .table ∙ ap (λ (o : Outcome). cellsAfter o (lineCount (three-twice .sheet)) (lineOutcome three-twice) cells) yes
+    ∙ worked .3 in
+    let e : at x 0 ≡ 300000 = ap (λ (t : List ℕ). at t 0) three in
+    omega (arith, cell r x y p 0)

@@ -4,10 +4,10 @@ ghost use Prim.Native.Nat.{_<_};
 use desk::answer::Outcome;
 use desk::cells::COLUMNS;
 use desk::declare::declare;
-use desk::declare::unit_of;
 use desk::house::MOST_BYTES;
 use desk::sheet::line_count;
 use desk::table::MOST_CELLS;
+use desk::unit::unit_of;
 use libc::STDOUT_FILENO;
 use little::part::part;
 

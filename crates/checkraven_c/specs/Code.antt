@@ -6,12 +6,16 @@ use lib.ListN.{length}
 use Rattle.desk.specs.Lent.{Lent}
 use Rattle.desk.specs.Answer.{answerNumber, answerLine}
 use Rattle.desk.specs.Table.{answerOf}
-use Rattle.desk.specs.Declare.{BothAfter}
+use Rattle.desk.specs.Declare.{Declared}
 use Rattle.desk.specs.declared.answer.Outcome.{Outcome}
 
--- number × 65,536 + line, both 0 for accepted
+-- a refusal's number is counted in these, and its line stands below them
+abbrev pub numberUnit : ℕ
+numberUnit = 65536
+
+-- both parts are 0 for accepted
 abbrev pub codeOf : Outcome → ℕ
-codeOf r = answerNumber r * 65536 + answerLine r
+codeOf r = answerNumber r * numberUnit + answerLine r
 
 -- the desk's answer, for two lent results
 abbrev pub answered : (f : Lent) (exact shown : List ℕ) → Outcome
@@ -20,4 +24,4 @@ answered f exact shown = answerOf f (min (length exact) (length shown))
 -- the answer r is the code of the desk's, and both results hold what the desk leaves in them
 pub record Accounts (f : Lent) (exact shown : List ℕ) (r : ℕ) (exact' shown' : List ℕ) : Type 0 where
   pub answer : r ≡ codeOf (answered f exact shown)
-  pub cells : BothAfter f exact shown (answered f exact shown) exact' shown'
+  pub declared : Declared f exact shown (answered f exact shown) exact' shown'

@@ -116,6 +116,19 @@ answer-numbered f room = go (byFiles f room) (byLines (lineCount (f .sheet)) (li
     go Accepted (Refused k line) h g refused = inr g
     go Accepted Accepted h g refused = absurd (refused refl)
 
+-- an answer's line is one of a good sheet, or 0
+pub answer-line-small : (f : Lent) (room : ℕ) → answerLine (answerOf f room) ≤ mostLines
+unfolding answerOf
+answer-line-small f room =
+    go (byFiles f room) (byLines (lineCount (f .sheet)) (lineOutcome f)) refl (files-numbered f room) (lines-numbered (lineCount (f .sheet)) (lineOutcome f))
+  where
+    go : (files lines : Outcome) → byFiles f room ≡ files → FileOf files → LineOf (lineCount (f .sheet)) lines
+        → answerLine (orElseLines files lines) ≤ mostLines
+    go (Refused k line) lines e h g =
+        ⊎-elim (λ (p : OfFile _ line). omega (arith, p .none)) (λ (p : OfLine 0 _ line). absurd (omega (arith, p .some, p .within))) (h 0)
+    go Accepted (Refused k line) e h g = omega (arith, g .within, lines-few (f .sheet) (ready f room e .sheet))
+    go Accepted Accepted e h g = omega arith
+
 -- ---- demand 2: a line that gives a row
 
 abbrev RowDemand : (b : List ℕ) (line : Line) (row : TableRow) → Type 0

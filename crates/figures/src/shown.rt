@@ -10,7 +10,7 @@ use super::print::total;
 use super::print::verdict;
 use desk::answer::Outcome;
 use desk::declare::declare;
-use desk::declare::unit_of;
+use desk::unit::unit_of;
 use settle::Settled;
 
 fn judge(exact: &[u64], shown: &[u64], unit: u64, lines: u16) {

@@ -11,7 +11,9 @@ use Rattle.amounts.specs.Line.{wholeShare}
 use Rattle.search.specs.Test.{all}
 use Rattle.search.proofs.LawTest.{and-right, all-at, every-at}
 use Rattle.desk.specs.House.{fileOk}
-use Rattle.desk.specs.Book.{bookHeader, bookFits, rowCount, rowStart, fieldsAt, techniqueBlock, techniqueCount, techniqueEfficiency, techniqueOk, techniquesOk, bookHeaderOk, fieldsOk, coefficientAt, rowOk, rowsOk, bookOk, mostTechniques, mostCoefficient}
+use Rattle.desk.specs.Book.{bookHeader, bookFits, rowCount, techniqueCount, mostTechniques, bookHeaderOk, techniqueBlock}
+use Rattle.desk.specs.Book.{techniqueEfficiency, techniqueOk, techniquesOk, rowStart, fieldsAt, fieldsOk, mostCoefficient, coefficientAt}
+use Rattle.desk.specs.Book.{rowOk, rowsOk, bookOk}
 
 -- the powers of ten that a coefficient is made with
 abbrev pub tens : List ℕ

@@ -263,21 +263,10 @@ module _ (f : Lent) (exact shown : List ℕ) (r : Outcome) (exact' shown' : List
           rw shows (drop-at (shownTable unit width (n + 1) t) (drop (tableSize n) shown) (tableSize n) (omega arith))
 
     module _ (no : r ≢ Accepted) where
-      exact-zero : exact' ≡ replicate (length exact) 0
-      unfolding cellsAfter
-      exact-zero = go r refl
-        where
-          go : (o : Outcome) → r ≡ o → exact' ≡ replicate (length exact) 0
-          go Accepted e = absurd (no e)
-          go (Refused k line) e = rw e at (both .table)
-
-      shown-zero : shown' ≡ replicate (length shown) 0
-      unfolding shownAfter
-      shown-zero = go r refl
-        where
-          go : (o : Outcome) → r ≡ o → shown' ≡ replicate (length shown) 0
-          go Accepted e = absurd (no e)
-          go (Refused k line) e = rw e at (both .shows)
+      both-zero : (o : Outcome) → r ≡ o → (exact' ≡ replicate (length exact) 0) × (shown' ≡ replicate (length shown) 0)
+      unfolding cellsAfter shownAfter
+      both-zero Accepted e = absurd (no e)
+      both-zero (Refused k line) e = (rw e at (both .table), rw e at (both .shows))
 
       is-numbered : OfFile (answerNumber r) (answerLine r) ⊎ OfLine (lineCount (f .sheet)) (answerNumber r) (answerLine r)
       is-numbered = rw answer (answer-numbered f (min (length exact) (length shown)) (λ e. no (answer ∙ e)))
@@ -287,8 +276,8 @@ module _ (f : Lent) (exact shown : List ℕ) (r : Outcome) (exact' shown' : List
         record {
           answer = answer;
           numbered = is-numbered;
-          exactZero = exact-zero;
-          shownZero = shown-zero;
+          exactZero = λ no. both-zero no r refl .0;
+          shownZero = λ no. both-zero no r refl .1;
           exactPast = exact-past;
           shownPast = shown-past;
         }

@@ -61,7 +61,15 @@ less-trans x y z p q = before-trans (keyFields x) (keyFields y) (keyFields z) p 
 same-fields : (a k : Key) → keySame a k ≡ true → keyFields a ≡ keyFields k
 unfolding keySame
 same-fields a k h =
-    rw (eqb-true (a .industry) (k .industry) (every-at _ h 0), eqb-true (a .product) (k .product) (every-at _ h 1), eqb-true (a .material) (k .material) (every-at _ h 2), eqb-true (a .process) (k .process) (every-at _ h 3), eqb-true (a .scale) (k .scale) (every-at _ h 4), eqb-true (a .medium) (k .medium) (every-at _ h 5), eqb-true (a .pollutant) (k .pollutant) (every-at _ h 6))
+    rw (
+      eqb-true (a .industry) (k .industry) (every-at _ h 0),
+      eqb-true (a .product) (k .product) (every-at _ h 1),
+      eqb-true (a .material) (k .material) (every-at _ h 2),
+      eqb-true (a .process) (k .process) (every-at _ h 3),
+      eqb-true (a .scale) (k .scale) (every-at _ h 4),
+      eqb-true (a .medium) (k .medium) (every-at _ h 5),
+      eqb-true (a .pollutant) (k .pollutant) (every-at _ h 6),
+    )
 
 -- what is told apart by some key is not the same
 apart : (c a k : Key) → keyLess c a ≡ true → keyLess c k ≡ false → keySame a k ≡ false

@@ -21,7 +21,10 @@ returns c = rw (← c .before .before .before .treatment-of .ensures, c .before 
 
 returns-2 : tie.Need-returns-2
 returns-2 c =
-    rw (← c .before .before .before .before .before .before .before .treatment-of .ensures, c .before .before .before .before .before .efficiency .given .1, ← c .before .before .before .generated .ensures, c .row-from .ensures, c .before .amounts-of .ensures)
+    let treatment = c .before .before .before .before .before .before .before .treatment-of .ensures in
+    let told = c .before .before .before .before .before .efficiency .given .1 in
+    let product = c .before .before .before .generated .ensures in
+    rw (← treatment, told, ← product, c .row-from .ensures, c .before .amounts-of .ensures)
 
 pub by-treatment-spec : {M : Type 1} → statement M
 by-treatment-spec =

@@ -19,9 +19,11 @@ list-ok-requires c κs =
 returns : tie.Need-returns
 unfolding every rowOk
 returns c =
-    let z = c .before .before .before .before .before .before .before .before .before .before .before in
-    let size = c .before .before .before .before .before .before .before .before .technique-count in
-    rw (← c .before .before .before .before .before .before .before .row-start .ensures .eq, ← c .before .before .before .before .before .before .fields-ok .ensures, c .before .before .before .before .before .if1 .taken) (cc (listed _ _ _ _ _ _ _ (size .ensures .eq) (z .pre .1) (c .before .list-ok .ensures)))
+    let runs = c .before .before .before .before .before .before .before .before .before .before .before .pre .1 in
+    let size = c .before .before .before .before .before .before .before .before .technique-count .ensures .eq in
+    let start = c .before .before .before .before .before .before .before .row-start .ensures .eq in
+    let fields = c .before .before .before .before .before .before .fields-ok .ensures in
+    rw (← start, ← fields, c .before .before .before .before .before .if1 .taken) (cc (listed _ _ _ _ _ _ _ size runs (c .before .list-ok .ensures)))
 
 returns-2 : tie.Need-returns-2
 unfolding every rowOk

@@ -7,7 +7,10 @@ use Rattle.desk.proofs.table.by_files.Tie as tie
 returns : tie.Need-returns
 unfolding byFiles
 returns c =
-    rw (← c .before .before .before .before .before .book-ok .ensures, c .before .before .before .before .if1 .taken, ← c .before .before .before .sheet-ok .ensures, c .before .before .if2 .taken, ← c .before .line-count .ensures .eq) (c .room-for .ensures)
+    let book = c .before .before .before .before .before .book-ok .ensures in
+    let sheet = c .before .before .before .sheet-ok .ensures in
+    let good = c .before .before .before .before .if1 .taken in
+    rw (← book, good, ← sheet, c .before .before .if2 .taken, ← c .before .line-count .ensures .eq) (c .room-for .ensures)
 
 returns-2 : tie.Need-returns-2
 unfolding byFiles

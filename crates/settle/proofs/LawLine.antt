@@ -75,24 +75,24 @@ sum-one W t b s (suc n) k l h =
     ∙ rw (h n (omega arith) (omega arith), add-zero, mod-mod) (sum-one W t b s n k (omega arith) (λ j m. h j (omega arith))))
 
 -- what seek finds
-pub record Sought (W : ℕ) (t : List ℕ) (b s q m k r : ℕ) : Type 0 where
+pub record Seen (W : ℕ) (t : List ℕ) (b s q m k r : ℕ) : Type 0 where
   pub most : r ≤ k + m
   pub hit : r < k + m → (r ≢ q) × (at t (b + r * s) % W ≢ 0)
   pub passed : (j : ℕ) → k ≤ j → j < r → j ≢ q → Whole W (at t (b + j * s))
 
 module _ (W : ℕ) (t : List ℕ) (b s q : ℕ) where
-  more : (m k r : ℕ) → Sought W t b s q m (suc k) r → (k ≢ q → Whole W (at t (b + k * s))) → Sought W t b s q (suc m) k r
+  more : (m k r : ℕ) → Seen W t b s q m (suc k) r → (k ≢ q → Whole W (at t (b + k * s))) → Seen W t b s q (suc m) k r
   more m k r g h = record { most = omega (arith, g .most); hit = λ l. g .hit (omega arith); passed = λ j a l z. by-dec (ℕ-discrete j k) (λ e. rw e (h (λ y. z (e ∙ y)))) (λ n. g .passed j (omega arith) l z) }
 
-  pub sought : (m k : ℕ) → Sought W t b s q m k (seek W t b s q m k)
+  pub seen : (m k : ℕ) → Seen W t b s q m k (seek W t b s q m k)
   unfolding seek
-  sought zero k = record { most = omega arith; hit = λ l. absurd (omega arith); passed = λ j a l z. absurd (omega arith) }
-  sought (suc m) k =
+  seen zero k = record { most = omega arith; hit = λ l. absurd (omega arith); passed = λ j a l z. absurd (omega arith) }
+  seen (suc m) k =
       by-dec (ℕ-discrete k q)
-      (λ e. rw (pick-yes (ℕ-discrete k q) (seek W t b s q m (suc k)) _ e) (more m k _ (sought m (suc k)) (λ z. absurd (z e))))
+      (λ e. rw (pick-yes (ℕ-discrete k q) (seek W t b s q m (suc k)) _ e) (more m k _ (seen m (suc k)) (λ z. absurd (z e))))
       (λ e. rw (pick-no (ℕ-discrete k q) (seek W t b s q m (suc k)) _ e)
       (by-dec (whole? W (at t (b + k * s)))
-      (λ w. rw (pick-yes (whole? W (at t (b + k * s))) (seek W t b s q m (suc k)) k w) (more m k _ (sought m (suc k)) (λ z. w)))
+      (λ w. rw (pick-yes (whole? W (at t (b + k * s))) (seek W t b s q m (suc k)) k w) (more m k _ (seen m (suc k)) (λ z. w)))
       (λ w. rw (pick-no (whole? W (at t (b + k * s))) (seek W t b s q m (suc k)) k w)
       (record { most = omega arith; hit = λ l. (e, w); passed = λ j a l z. absurd (omega arith) }))))
 
@@ -104,7 +104,7 @@ pub record Found (W : ℕ) (t : List ℕ) (b s n q r : ℕ) : Type 0 where
 
 pub finds : (W : ℕ) (t : List ℕ) (b s n q : ℕ) → Whole W (sum t b s n) → q < n → at t (b + q * s) % W ≢ 0 → Found W t b s n q (seek W t b s q n 0)
 finds W t b s n q w l h =
-    let g = sought W t b s q n 0 in
+    let g = seen W t b s q n 0 in
     by-dec (ℕ-discrete (seek W t b s q n 0) n)
     (λ e. absurd (h (sym (sum-one W t b s n q l (λ j m z. g .passed j (omega arith) (omega arith) z)) ∙ w)))
     (λ e.

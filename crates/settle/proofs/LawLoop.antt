@@ -10,7 +10,7 @@ use native.Mathlib.Omega.{arith}
 use lib.ListN.{length, getD, drop, drop-of-length-le}
 use lib.Seq.{drop-cons}
 use Rattle.settle.specs.Shown.{at, Whole}
-use Rattle.settle.specs.Step.{closes, rises, least, shift, turn, twin, room}
+use Rattle.settle.specs.Step.{closes, rises, least, moveBy, movePair, twin, room}
 use Rattle.settle.proofs.LawLine.{pick-yes, pick-no}
 use Rattle.settle.proofs.LawWalk.{closes-whole, closes-here}
 
@@ -28,16 +28,16 @@ module _ (W K : ℕ) (t : List ℕ) (r : ℕ) (us : List ℕ) (i : ℕ) where
   unfolding closes
   closes-out l = rw (drop-of-length-le us l)
 
-module _ (mark : ℕ) (us : List ℕ) (i : ℕ) where
-  pub rises-stop : i < length us → getD us i 0 ≡ mark → rises mark (drop i us) ≡ false
+module _ (up : Bool) (mark : ℕ) (us : List ℕ) (i : ℕ) where
+  pub rises-stop : i < length us → getD us i 0 ≡ mark → rises up mark (drop i us) ≡ up
   unfolding rises
   rises-stop l h = rw (drop-next us i l) (pick-yes (ℕ-discrete (getD us i 0) mark) _ _ h)
 
-  pub rises-on : i < length us → getD us i 0 ≢ mark → rises mark (drop i us) ≡ rises mark (drop (i + 1) us)
+  pub rises-on : i < length us → getD us i 0 ≢ mark → rises up mark (drop i us) ≡ rises up mark (drop (i + 1) us)
   unfolding rises
   rises-on l h = rw (drop-next us i l) (pick-no (ℕ-discrete (getD us i 0) mark) _ _ h)
 
-  pub rises-out : length us ≤ i → rises mark (drop i us) ≡ true
+  pub rises-out : length us ≤ i → rises up mark (drop i us) ≡ not up
   unfolding rises
   rises-out l = rw (drop-of-length-le us l)
 
@@ -52,13 +52,13 @@ module _ (W K : ℕ) (up : Bool) (t : List ℕ) (x : ℕ) (us : List ℕ) (i : �
   least-out l = rw (drop-of-length-le us l)
 
 module _ (K p m : ℕ) (x : ℕ) (us : List ℕ) (i : ℕ) (t : List ℕ) where
-  pub shift-on : i < length us → shift K p m x (drop i us) t ≡ shift K p m (getD us i 0 % K) (drop (i + 1) us) (turn K p m x (getD us i 0) t)
-  unfolding shift
-  shift-on l = rw (drop-next us i l)
+  pub move-on : i < length us → moveBy K p m x (drop i us) t ≡ moveBy K p m (getD us i 0 % K) (drop (i + 1) us) (movePair K p m x (getD us i 0) t)
+  unfolding moveBy
+  move-on l = rw (drop-next us i l)
 
-  pub shift-out : length us ≤ i → shift K p m x (drop i us) t ≡ t
-  unfolding shift
-  shift-out l = rw (drop-of-length-le us l)
+  pub move-out : length us ≤ i → moveBy K p m x (drop i us) t ≡ t
+  unfolding moveBy
+  move-out l = rw (drop-of-length-le us l)
 
 -- no least room is above W
 pub least-most : (W K : ℕ) (up : Bool) (t : List ℕ) (x : ℕ) (us : List ℕ) → min W (least W K up t x us) ≡ least W K up t x us
@@ -66,6 +66,6 @@ unfolding least
 least-most W K up t x [] = omega arith
 least-most W K up t x (u ∷ us) = omega (arith, least-most W K up t (u % K) us)
 
--- a turn of the loop that finds the least
+-- a movePair of the loop that finds the least
 pub least-step : (best rest all ra rb : ℕ) {b2 b1 a b whole : ℕ} → b2 ≡ min best b1 → b1 ≡ min a b → a ≡ ra → b ≡ rb → whole ≡ min (min ra rb) rest → min best whole ≡ all → min b2 rest ≡ all
 least-step best rest all ra rb p q r s e f = omega arith

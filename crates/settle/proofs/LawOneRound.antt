@@ -1,5 +1,5 @@
--- A step moves the cells of one closed round, two in each of its rows and columns, all by the same amount; and the lifted total goes up.
-use Rattle.search.proofs.LawTest.{clash}
+-- The cells of the path move one way and their twins the other, all by the same amount; rows are apart, so no later pair moves them again. Each
+-- row of a path has one cell and one twin, and each column as many twins as cells. The way is chosen so that the marked total goes up.
 use mathlib.Core.Path.{_≡_, refl, sym, ap, _∙_}
 use mathlib.Core.Logic.{_≢_, _⊎_, inl, inr, ⊎-elim}
 use mathlib.Core.List.{List, [], _∷_, _++_}
@@ -8,73 +8,96 @@ use Prim.Native.Nat.{ℕ, _+_, _-_, _*_, _/_, _%_, _≤_, _<_}
 use native.Mathlib.Nat.{le-refl, mod-lt}
 use native.Mathlib.Decide.{ℕ-discrete, decLt}
 use native.Mathlib.Omega.{arith}
+use borrow.Author.Tests.{eq-eqb, ne-eqb}
 use lib.Arith.{digits-div, digits-mod}
+use lib.Dec.{eqb}
 use lib.ListN.{length, set, List·getD-eq-default}
 use lib.Seq.{getD-set-other}
+use Rattle.search.proofs.LawTest.{clash}
+use Rattle.settle.specs.Grid.{Grid, area}
 use Rattle.settle.specs.Shown.{at}
 use Rattle.settle.specs.Table.{limit, Good}
-use Rattle.settle.specs.Step.{loose, firstLoose, round, end, twin, turn, shift, room, least, rises, part, moved, turnOnce, mirror, lifted, step, stepRound, stepAmount}
+use Rattle.settle.specs.Step.{
+  loose,
+  firstLoose,
+  roundFrom,
+  endColumn,
+  twin,
+  movePair,
+  moveBy,
+  room,
+  least,
+  rises,
+  part,
+  moveRound,
+  stepMirrored,
+  mirror,
+  markedCell,
+  step,
+  stepRound,
+  stepAmount,
+}
 use Rattle.settle.specs.Moves.{twins, roundCells, Among, same, inRow, inColumn, OneRound}
 use Rattle.settle.specs.Inner.{Table, Apart, New, Trail, Closed, Fit}
 use Rattle.settle.proofs.LawLine.{pick-yes, pick-no, by-dec}
-use Rattle.settle.proofs.LawTurn.{turn-other, turn-u, turn-twin, twin-row, enough, twin-enough}
+use Rattle.settle.proofs.LawPair.{pair-other, pair-cell, pair-twin, twin-row, enough, twin-enough}
 use Rattle.settle.proofs.LawRound.{rest, fit-least}
-use Rattle.settle.proofs.LawTurnOnce.{end-end, round-ok, first-loose, first-none, turn-moves, turn-kept, kept-table}
-use Rattle.settle.proofs.LawMirror.{good-most, good-table, at-mirror, mirror-cases, minus-last, whole-comp, count-mirror}
-use Rattle.settle.proofs.LawSteps.{step-good, step-stays}
+use Rattle.settle.proofs.LawStepMirrored.{end-end, round-closed, first-loose, first-none, mirrored-moves, mirrored-table}
+use Rattle.settle.proofs.LawMirror.{good-bounded, good-table, both-ways, at-mirror, length-mirror, mirror-cases, minus-last, plus-last, whole-comp}
+use Rattle.settle.proofs.LawSteps.{step-good, step-stays, count-good}
 
 -- a cell of the path is not in a row apart
 among-apart : (K r v : ℕ) (us : List ℕ) → Apart K r us → Among v us → v / K ≢ r
 among-apart K r v [] a h = absurd h
 among-apart K r v (u ∷ us) a h = ⊎-elim (λ e. rw (← e) (a .0)) (λ g. among-apart K r v us (a .1) g) h
 
-module _ (W K p m : ℕ) (hW : 0 < W) (hK : 0 < K) where
+module _ {W K : ℕ} (p m : ℕ) (hW : 0 < W) (hK : 0 < K) where
   twinned-apart : (r v x : ℕ) (us t : List ℕ) → Fit W K p m t x us → Apart K r us → Among v (twins K x us) → v / K ≢ r
   unfolding twins
   twinned-apart r v x [] t f a h = absurd h
   twinned-apart r v x (u ∷ us) t f a h =
       ⊎-elim
-      (λ e y. a .0 (sym (twin-row W K p m t x u hW hK (f .0)) ∙ ap (λ (i : ℕ). i / K) e ∙ y))
+      (λ e y. a .0 (sym (twin-row hW hK (f .0)) ∙ ap (λ (i : ℕ). i / K) e ∙ y))
       (λ g. twinned-apart r v (u % K) us t (f .2) (a .1) g)
       h
 
   -- a row that is apart is not touched
-  shift-other : (r x : ℕ) (us t : List ℕ) → Fit W K p m t x us → Apart K r us → (i : ℕ) → i / K ≡ r → at (shift K p m x us t) i ≡ at t i
-  unfolding shift
-  shift-other r x [] t f a i e = refl
-  shift-other r x (u ∷ us) t f a i e =
-      shift-other r (u % K) us (turn K p m x u t) (rest W K p m hW hK x u us t f) (a .1) i e
-      ∙ turn-other W K p m t x u hW hK (f .0) i (λ z. a .0 (sym z ∙ e))
+  move-other : (r x : ℕ) (us t : List ℕ) → Fit W K p m t x us → Apart K r us → (i : ℕ) → i / K ≡ r → at (moveBy K p m x us t) i ≡ at t i
+  unfolding moveBy
+  move-other r x [] t f a i e = refl
+  move-other r x (u ∷ us) t f a i e =
+      move-other r (u % K) us (movePair K p m x u t) (rest p m hW hK x u us t f) (a .1) i e
+      ∙ pair-other hW hK (f .0) i (λ z. a .0 (sym z ∙ e))
 
   -- what the round does to its cells, and to their twins
-  shift-among : (v x : ℕ) (us t : List ℕ) → Fit W K p m t x us → Among v us → at (shift K p m x us t) v + m ≡ at t v + p
-  unfolding shift
-  shift-among v x [] t f h = absurd h
-  shift-among v x (u ∷ us) t f h =
+  move-among : (v x : ℕ) (us t : List ℕ) → Fit W K p m t x us → Among v us → at (moveBy K p m x us t) v + m ≡ at t v + p
+  unfolding moveBy
+  move-among v x [] t f h = absurd h
+  move-among v x (u ∷ us) t f h =
       ⊎-elim
       (λ e.
-      let a = shift-other (u / K) (u % K) us (turn K p m x u t) (rest W K p m hW hK x u us t f) (f .1) u refl in
-      let b = turn-u W K p m t x u hW hK (f .0) in
-      let g : at (shift K p m (u % K) us (turn K p m x u t)) u + m ≡ at t u + p = omega (arith, enough W K p m t x u hW hK (f .0)) in
+      let a = move-other (u / K) (u % K) us (movePair K p m x u t) (rest p m hW hK x u us t f) (f .1) u refl in
+      let b = pair-cell hW hK (f .0) in
+      let g : at (moveBy K p m (u % K) us (movePair K p m x u t)) u + m ≡ at t u + p = omega (arith, enough hW hK (f .0)) in
       rw (← e) g)
       (λ g.
-      shift-among v (u % K) us (turn K p m x u t) (rest W K p m hW hK x u us t f) g
-      ∙ ap (λ (i : ℕ). i + p) (turn-other W K p m t x u hW hK (f .0) v (among-apart K (u / K) v us (f .1) g)))
+      move-among v (u % K) us (movePair K p m x u t) (rest p m hW hK x u us t f) g
+      ∙ ap (λ (i : ℕ). i + p) (pair-other hW hK (f .0) v (among-apart K (u / K) v us (f .1) g)))
       h
 
-  shift-twinned : (v x : ℕ) (us t : List ℕ) → Fit W K p m t x us → Among v (twins K x us) → at (shift K p m x us t) v + p ≡ at t v + m
-  unfolding shift twins
-  shift-twinned v x [] t f h = absurd h
-  shift-twinned v x (u ∷ us) t f h =
+  move-twinned : (v x : ℕ) (us t : List ℕ) → Fit W K p m t x us → Among v (twins K x us) → at (moveBy K p m x us t) v + p ≡ at t v + m
+  unfolding moveBy twins
+  move-twinned v x [] t f h = absurd h
+  move-twinned v x (u ∷ us) t f h =
       ⊎-elim
       (λ e.
-      let a = shift-other (u / K) (u % K) us (turn K p m x u t) (rest W K p m hW hK x u us t f) (f .1) (twin K x u) (twin-row W K p m t x u hW hK (f .0)) in
-      let b = turn-twin W K p m t x u hW hK (f .0) in
-      let g : at (shift K p m (u % K) us (turn K p m x u t)) (twin K x u) + p ≡ at t (twin K x u) + m = omega (arith, twin-enough W K p m t x u hW hK (f .0)) in
+      let a = move-other (u / K) (u % K) us (movePair K p m x u t) (rest p m hW hK x u us t f) (f .1) (twin K x u) (twin-row hW hK (f .0)) in
+      let b = pair-twin hW hK (f .0) in
+      let g : at (moveBy K p m (u % K) us (movePair K p m x u t)) (twin K x u) + p ≡ at t (twin K x u) + m = omega (arith, twin-enough hW hK (f .0)) in
       rw (← e) g)
       (λ g.
-      shift-twinned v (u % K) us (turn K p m x u t) (rest W K p m hW hK x u us t f) g
-      ∙ ap (λ (i : ℕ). i + m) (turn-other W K p m t x u hW hK (f .0) v (twinned-apart (u / K) v (u % K) us t (f .2) (f .1) g)))
+      move-twinned v (u % K) us (movePair K p m x u t) (rest p m hW hK x u us t f) g
+      ∙ ap (λ (i : ℕ). i + m) (pair-other hW hK (f .0) v (twinned-apart (u / K) v (u % K) us t (f .2) (f .1) g)))
       h
 
   -- no twin is a cell of the round
@@ -86,7 +109,7 @@ module _ (W K p m : ℕ) (hW : 0 < W) (hK : 0 < K) where
       (λ e.
       ⊎-elim
       (λ y. f .0 .hop .other (ap (λ (i : ℕ). i % K) (y ∙ sym e) ∙ digits-mod (u / K) (f .0 .hop .column)))
-      (λ y. among-apart K (u / K) v us (f .1) y (ap (λ (i : ℕ). i / K) (sym e) ∙ twin-row W K p m t x u hW hK (f .0)))
+      (λ y. among-apart K (u / K) v us (f .1) y (ap (λ (i : ℕ). i / K) (sym e) ∙ twin-row hW hK (f .0)))
       g)
       (λ e.
       ⊎-elim
@@ -99,47 +122,27 @@ room-pos : (W : ℕ) (up : Bool) (x : ℕ) → 0 < W → x % W ≢ 0 → 0 < roo
 room-pos W true x h z = omega (arith, mod-lt x h)
 room-pos W false x h z = omega arith
 
-rises-among : (v : ℕ) (us : List ℕ) → Among v us → rises v us ≡ false
+rises-among : (up : Bool) (v : ℕ) (us : List ℕ) → Among v us → rises up v us ≡ up
 unfolding rises
-rises-among v [] h = absurd h
-rises-among v (u ∷ us) h =
+rises-among up v [] h = absurd h
+rises-among up v (u ∷ us) h =
     by-dec (ℕ-discrete u v)
     (λ e. pick-yes (ℕ-discrete u v) _ _ e)
-    (λ e. pick-no (ℕ-discrete u v) _ _ e ∙ rises-among v us (⊎-elim (λ y. absurd (e y)) (λ y. y) h))
+    (λ e. pick-no (ℕ-discrete u v) _ _ e ∙ rises-among up v us (⊎-elim (λ y. absurd (e y)) (λ y. y) h))
 
-rises-not : (v : ℕ) (us : List ℕ) → (Among v us → ⊥) → rises v us ≡ true
+rises-not : (up : Bool) (v : ℕ) (us : List ℕ) → (Among v us → ⊥) → rises up v us ≡ not up
 unfolding rises
-rises-not v [] h = refl
-rises-not v (u ∷ us) h = pick-no (ℕ-discrete u v) _ _ (λ e. h (inl e)) ∙ rises-not v us (λ y. h (inr y))
+rises-not up v [] h = refl
+rises-not up v (u ∷ us) h = pick-no (ℕ-discrete u v) _ _ (λ e. h (inl e)) ∙ rises-not up v us (λ y. h (inr y))
 
 -- a round has room
-pub least-pos : (W K : ℕ) (up : Bool) (t : List ℕ) (x : ℕ) (us : List ℕ) → 0 < W → Trail W K t x us → 0 < least W K up t x us
+least-pos : (W K : ℕ) (up : Bool) (t : List ℕ) (x : ℕ) (us : List ℕ) → 0 < W → Trail W K t x us → 0 < least W K up t x us
 unfolding least
 least-pos W K up t x [] hW h = hW
 least-pos W K up t x (u ∷ us) hW h =
-    omega (arith, least-pos W K up t (u % K) us hW (h .3), room-pos W up (at t u) hW (h .0 .loose), room-pos W (not up) (at t (twin K x u)) hW (h .0 .twin-loose))
-
--- the marked cell of a round goes down, by the round's least room
-pub mark-down : (W K mark : ℕ) (us t : List ℕ) → 0 < W → 0 < K → Closed W K t us → Among mark us ⊎ Among mark (twins K (end K 0 us) us) →
-    at (moved W K mark us t) mark + least W K (rises mark us) t (end K 0 us) us ≡ at t mark
-unfolding moved
-mark-down W K mark us t hW hK g h =
-    let x = end K 0 us in
-    let up = rises mark us in
-    let d = least W K up t x us in
-    let f = fit-least W K up t x us d (g .trail) (le-refl d) in
-    ⊎-elim
-    (λ a. went up d _ (rises-among mark us a) (shift-among W K (part up d) (part (not up) d) hW hK mark x us t f a))
-    (λ b. went' up d _ (rises-not mark us (not-both W K (part up d) (part (not up) d) hW hK mark x us t f b)) (shift-twinned W K (part up d) (part (not up) d) hW hK mark x us t f b))
-    h
-  where
-    went : (up : Bool) (d y : ℕ) → up ≡ false → y + part (not up) d ≡ at t mark + part up d → y + d ≡ at t mark
-    went true d y e q = clash (cc)
-    went false d y e q = omega arith
-
-    went' : (up : Bool) (d y : ℕ) → up ≡ true → y + part up d ≡ at t mark + part (not up) d → y + d ≡ at t mark
-    went' true d y e q = omega arith
-    went' false d y e q = clash (cc)
+    let a = room-pos W up (at t u) hW (h .0 .loose) in
+    let b = room-pos W (not up) (at t (twin K x u)) hW (h .0 .twin-loose) in
+    omega (arith, least-pos W K up t (u % K) us hW (h .3))
 
 is-same : (a b : ℕ) → a ≡ b → same a b ≡ 1
 is-same a b e = pick-yes {A = ℕ} (ℕ-discrete a b) 1 0 e
@@ -182,8 +185,8 @@ module _ (W K : ℕ) (t : List ℕ) where
   twins-row r x (u ∷ us) h =
       omega (arith, ap (λ (i : ℕ). same i r) (digits-div (u / K) (h .0 .column)), twins-row r (u % K) us (h .3))
 
-  twins-col : (c x : ℕ) (us : List ℕ) → Trail W K t x us → inColumn K c (twins K x us) + same (end K x us) c ≡ inColumn K c us + same x c
-  unfolding inColumn twins end
+  twins-col : (c x : ℕ) (us : List ℕ) → Trail W K t x us → inColumn K c (twins K x us) + same (endColumn K x us) c ≡ inColumn K c us + same x c
+  unfolding inColumn twins endColumn
   twins-col c x [] h = refl
   twins-col c x (u ∷ us) h =
       omega (arith, ap (λ (i : ℕ). same i c) (digits-mod (u / K) (h .0 .column)), twins-col c (u % K) us (h .3))
@@ -201,17 +204,17 @@ two : (a b : ℕ) → a ≤ 1 → b ≡ a → (a + b ≡ 0) ⊎ (a + b ≡ 2)
 two a b l e = by-dec (ℕ-discrete a 0) (λ z. inl (omega arith)) (λ z. inr (omega arith))
 
 -- a cell that is none of the round's is not touched
-turn-else : (K p m x u : ℕ) (t : List ℕ) (v : ℕ) → u ≢ v → twin K x u ≢ v → at (turn K p m x u t) v ≡ at t v
-turn-else K p m x u t v a b =
+pair-else : (K p m x u : ℕ) (t : List ℕ) (v : ℕ) → u ≢ v → twin K x u ≢ v → at (movePair K p m x u t) v ≡ at t v
+pair-else K p m x u t v a b =
     getD-set-other (set t u (at t u + p - m)) (twin K x u) v (at t (twin K x u) + m - p) 0 (λ e. b (sym e))
     ∙ getD-set-other t u v (at t u + p - m) 0 (λ e. a (sym e))
 
-shift-else : (K p m x : ℕ) (us t : List ℕ) (v : ℕ) → (Among v us → ⊥) → (Among v (twins K x us) → ⊥) → at (shift K p m x us t) v ≡ at t v
-unfolding shift twins
-shift-else K p m x [] t v a b = refl
-shift-else K p m x (u ∷ us) t v a b =
-    shift-else K p m (u % K) us (turn K p m x u t) v (λ g. a (inr g)) (λ g. b (inr g))
-    ∙ turn-else K p m x u t v (λ e. a (inl e)) (λ e. b (inl e))
+move-else : (K p m x : ℕ) (us t : List ℕ) (v : ℕ) → (Among v us → ⊥) → (Among v (twins K x us) → ⊥) → at (moveBy K p m x us t) v ≡ at t v
+unfolding moveBy twins
+move-else K p m x [] t v a b = refl
+move-else K p m x (u ∷ us) t v a b =
+    move-else K p m (u % K) us (movePair K p m x u t) v (λ g. a (inr g)) (λ g. b (inr g))
+    ∙ pair-else K p m x u t v (λ e. a (inl e)) (λ e. b (inl e))
 
 -- lists of cells, one after the other
 among-left : (v : ℕ) (us ws : List ℕ) → Among v us → Among v (us ++ ws)
@@ -237,7 +240,7 @@ in-column-both K c [] ws = omega arith
 in-column-both K c (u ∷ us) ws = omega (arith, in-column-both K c us ws)
 
 -- up or down by d
-Moved : ℕ → ℕ → ℕ → Type 0
+Moved : (x d y : ℕ) → Type 0
 Moved x d y = (y ≡ x + d) ⊎ (y + d ≡ x)
 
 by-direction : (up : Bool) (d x y : ℕ) → y + part (not up) d ≡ x + part up d → Moved x d y
@@ -255,132 +258,191 @@ mirror-moved : (x y d : ℕ) → x ≤ limit → y ≤ limit → Moved (limit - 
 unfolding Moved
 mirror-moved x y d a b h = ⊎-elim (λ e. inr (omega arith)) (λ e. inl (omega arith)) h
 
--- the round of a mirrored table that is not whole
-module _ (W K n mark : ℕ) (z : List ℕ) (h : Table W K n z) (l : firstLoose W K n z < n * K) where
-  abbrev us : List ℕ
-  us = round W K n z (firstLoose W K n z)
+-- the marked cell goes the way it has to
+Went : (up : Bool) (x d y : ℕ) → Type 0
+Went up x d y = y + part (not up) d ≡ x + part up d
 
-  closed : Closed W K z us
-  closed = round-ok W K n mark z h (firstLoose W K n z) l (first-loose W K n mark z h l)
+went-path : (m up : Bool) (x d y : ℕ) → up ≡ m → y + part (not up) d ≡ x + part up d → Went m x d y
+unfolding Went
+went-path m up x d y e p = rw e at p
+
+went-twin : (m up : Bool) (x d y : ℕ) → up ≡ not m → y + part up d ≡ x + part (not up) d → Went m x d y
+unfolding Went
+went-twin true up x d y e p = rw e at p
+went-twin false up x d y e p = rw e at p
+
+went-up : (m : Bool) (x d y : ℕ) → m ≡ true → Went m x d y → y ≡ x + d
+unfolding Went
+went-up true x d y e p = omega arith
+went-up false x d y e p = clash (cc)
+
+went-down : (m : Bool) (x d y : ℕ) → m ≡ false → Went m x d y → y + d ≡ x
+unfolding Went
+went-down true x d y e p = clash (cc)
+went-down false x d y e p = omega arith
+
+-- the round of a mirrored table that is not whole
+module _ {g : Grid} {z : List ℕ} (h : Table g z) (l : firstLoose (g .unit) z < length z) where
+  abbrev us : List ℕ
+  us = roundFrom (g .unit) (g .columns) (g .rows) z (firstLoose (g .unit) z)
+
+  abbrev mark : ℕ
+  mark = markedCell (g .columns) (g .rows) (g .marked)
+
+  abbrev up : Bool
+  up = rises (eqb (g .marked) 0) mark us
+
+  abbrev x : ℕ
+  x = endColumn (g .columns) 0 us
 
   abbrev amount : ℕ
-  amount = least W K (rises mark us) z (end K 0 us) us
+  amount = least (g .unit) (g .columns) up z x us
 
-  turned-moved : (v : ℕ) → Among v (roundCells K us) → Moved (at z v) amount (at (turnOnce W K n mark z) v)
-  unfolding moved
-  turned-moved v a =
-      let up = rises mark us in
-      let d = amount in
-      let x = end K 0 us in
-      let f = fit-least W K up z x us d (closed .trail) (le-refl d) in
-      rw (turn-moves W K n mark z h l)
-      (⊎-elim
-      (λ g. by-direction up d _ _ (shift-among W K (part up d) (part (not up) d) (h .shape .unit) (h .shape .wide) v x us z f g))
-      (λ g. by-twin up d _ _ (shift-twinned W K (part up d) (part (not up) d) (h .shape .unit) (h .shape .wide) v x us z f g))
-      (among-either v us (twins K x us) a))
+  closed : Closed (g .unit) (g .columns) z us
+  closed = round-closed h l (first-loose (g .unit) z l)
 
-  turned-else : (v : ℕ) → (Among v (roundCells K us) → ⊥) → at (turnOnce W K n mark z) v ≡ at z v
-  unfolding moved
-  turned-else v a =
-      let up = rises mark us in
-      let x = end K 0 us in
-      let d = least W K up z x us in
-      rw (turn-moves W K n mark z h l)
-      (shift-else K (part up d) (part (not up) d) x us z v (λ g. a (among-left v us (twins K x us) g)) (λ g. a (among-right v us (twins K x us) g)))
+  fit : Fit (g .unit) (g .columns) (part up amount) (part (not up) amount) z x us
+  fit = fit-least (g .unit) (g .columns) up z x us amount (closed .trail) (le-refl amount)
+
+  path-moved : (v : ℕ) → Among v us → at (stepMirrored g z) v + part (not up) amount ≡ at z v + part up amount
+  unfolding moveRound
+  path-moved v a =
+      rw (mirrored-moves h l) (move-among (part up amount) (part (not up) amount) (h .shape .unit) (h .shape .wide) v x us z fit a)
+
+  twins-moved : (v : ℕ) → Among v (twins (g .columns) x us) → at (stepMirrored g z) v + part up amount ≡ at z v + part (not up) amount
+  unfolding moveRound
+  twins-moved v a =
+      rw (mirrored-moves h l) (move-twinned (part up amount) (part (not up) amount) (h .shape .unit) (h .shape .wide) v x us z fit a)
+
+  mirrored-moved : (v : ℕ) → Among v (roundCells (g .columns) us) → Moved (at z v) amount (at (stepMirrored g z) v)
+  mirrored-moved v a =
+      ⊎-elim
+      (λ b. by-direction up amount _ _ (path-moved v b))
+      (λ b. by-twin up amount _ _ (twins-moved v b))
+      (among-either v us (twins (g .columns) x us) a)
+
+  mirrored-else : (v : ℕ) → (Among v (roundCells (g .columns) us) → ⊥) → at (stepMirrored g z) v ≡ at z v
+  unfolding moveRound
+  mirrored-else v a =
+      let ws = twins (g .columns) x us in
+      rw (mirrored-moves h l)
+      (move-else (g .columns) (part up amount) (part (not up) amount) x us z v (λ b. a (among-left v us ws b)) (λ b. a (among-right v us ws b)))
+
+  mark-moved : Among mark (roundCells (g .columns) us) → Went (eqb (g .marked) 0) (at z mark) amount (at (stepMirrored g z) mark)
+  mark-moved a =
+      let m = eqb (g .marked) 0 in
+      ⊎-elim
+      (λ b. went-path m up _ _ _ (rises-among m mark us b) (path-moved mark b))
+      (λ b.
+      let apart = not-both (part up amount) (part (not up) amount) (h .shape .unit) (h .shape .wide) mark x us z fit b in
+      went-twin m up _ _ _ (rises-not m mark us apart) (twins-moved mark b))
+      (among-either mark us (twins (g .columns) x us) a)
 
   -- what is said of the round itself
-  round-loose : (v : ℕ) → Among v (roundCells K us) → (v < length z) × (at z v % W ≢ 0)
+  round-loose : (v : ℕ) → Among v (roundCells (g .columns) us) → (v < length z) × (at z v % g .unit ≢ 0)
   round-loose v a =
-      let x = end K 0 us in
-      ⊎-elim (λ g. among-loose W K z v x us (closed .trail) g) (λ g. twinned-loose W K z v x us (closed .trail) g) (among-either v us (twins K x us) a)
+      ⊎-elim
+      (λ b. among-loose (g .unit) (g .columns) z v x us (closed .trail) b)
+      (λ b. twinned-loose (g .unit) (g .columns) z v x us (closed .trail) b)
+      (among-either v us (twins (g .columns) x us) a)
 
-  round-rows : (r : ℕ) → (inRow K r (roundCells K us) ≡ 0) ⊎ (inRow K r (roundCells K us) ≡ 2)
+  round-rows : (r : ℕ) → (inRow (g .columns) r (roundCells (g .columns) us) ≡ 0) ⊎ (inRow (g .columns) r (roundCells (g .columns) us) ≡ 2)
   round-rows r =
-      let x = end K 0 us in
-      rw (in-row-both K r us (twins K x us)) (two (inRow K r us) _ (row-most W K z r x us (closed .trail)) (twins-row W K z r x us (closed .trail)))
+      let K = g .columns in
+      rw (in-row-both K r us (twins K x us))
+      (two (inRow K r us) _ (row-most (g .unit) K z r x us (closed .trail)) (twins-row (g .unit) K z r x us (closed .trail)))
 
-  round-columns : (c : ℕ) → (inColumn K c (roundCells K us) ≡ 0) ⊎ (inColumn K c (roundCells K us) ≡ 2)
+  round-columns : (c : ℕ) → (inColumn (g .columns) c (roundCells (g .columns) us) ≡ 0) ⊎ (inColumn (g .columns) c (roundCells (g .columns) us) ≡ 2)
   round-columns c =
-      let x = end K 0 us in
+      let K = g .columns in
       let e = ap (λ (i : ℕ). same i c) (end-end K x 0 us (closed .some)) in
       rw (in-column-both K c us (twins K x us))
-      (two (inColumn K c us) _ (col-most W K z c x us (closed .trail)) (omega (arith, twins-col W K z c x us (closed .trail))))
+      (two (inColumn K c us) _ (col-most (g .unit) K z c x us (closed .trail)) (omega (arith, twins-col (g .unit) K z c x us (closed .trail))))
 
   amount-pos : 0 < amount
-  amount-pos = least-pos W K (rises mark us) z (end K 0 us) us (h .shape .unit) (closed .trail)
+  amount-pos = least-pos (g .unit) (g .columns) up z x us (h .shape .unit) (closed .trail)
+
+marked-at : (K n c : ℕ) → c < K → markedCell K n c ≡ (n - 1) * K + c
+unfolding markedCell
+marked-at K n c l = pick-yes (decLt c K) _ _ l
 
 -- a step of a good table that is not whole
-module _ (W K n : ℕ) (t : List ℕ) (h : Good W K n t) (some : loose W t ≢ 0) where
+module _ {g : Grid} {t : List ℕ} (h : Good g t) (some : loose (g .unit) t ≢ 0) where
   abbrev z : List ℕ
-  z = mirror K n t
+  z = mirror (g .columns) (g .rows) t
 
-  zt : Table W K n z
-  zt = good-table W K n t h
-
-  l : firstLoose W K n z < n * K
+  l : firstLoose (g .unit) z < length z
   l =
-      by-dec (decLt (firstLoose W K n z) (n * K))
+      by-dec (decLt (firstLoose (g .unit) z) (length z))
       (λ y. y)
-      (λ y. absurd (some (sym (count-mirror W K n t (h .shape .whole) (good-most W K n t h)) ∙ first-none W K n (lifted K n) z zt (omega arith))))
+      (λ y. absurd (some (sym (count-good h) ∙ first-none (g .unit) z (omega arith))))
 
-  turned : Table W K n (turnOnce W K n (lifted K n) z)
-  turned = kept-table W K n z _ zt (turn-kept W K n (lifted K n) z zt)
-
-  -- a cell and its mirror, before and after
-  both-ways : (v : ℕ) → v < n * K → (P : ℕ → ℕ → Type 0) → ((x y : ℕ) → x ≤ limit → y ≤ limit → P (limit - x) y → P x (limit - y)) →
-      P (at z v) (at (turnOnce W K n (lifted K n) z) v) → P (at t v) (at (step W K n t) v)
-  unfolding step
-  both-ways v i P f g =
-      let s = turnOnce W K n (lifted K n) z in
-      let a = at-mirror K n t v (omega (arith, h .size)) in
-      let b = at-mirror K n s v (omega (arith, turned .even .size)) in
-      ⊎-elim
-      (λ m. rw (b ∙ m (at s v)) (f (at t v) (at s v) (good-most W K n t h v) (turned .most v) (rw (a ∙ m (at t v)) at g)))
-      (λ m. rw (b ∙ m (at s v)) (rw (a ∙ m (at t v)) at g))
-      (mirror-cases K n v)
-
-  inside : (v : ℕ) → Among v (roundCells K (stepRound W K n t)) → (v < n * K) × (at t v % W ≢ 0)
+  inside : (v : ℕ) → Among v (roundCells (g .columns) (stepRound g t)) → (v < area g) × (at t v % g .unit ≢ 0)
   inside v a =
-      let g = round-loose W K n (lifted K n) z zt l v a in
-      let i : v < n * K = omega (arith, g .0, zt .even .size) in
-      let e = at-mirror K n t v (omega (arith, h .size)) in (
-        i,
-        λ w. g .1 (⊎-elim (λ m. rw (e ∙ m (at t v)) (whole-comp W limit (at t v) (h .shape .whole) w (good-most W K n t h v))) (λ m. rw (e ∙ m (at t v)) w) (mirror-cases K n v)),
+      let b = round-loose (good-table h) l v a in
+      let e = at-mirror (g .columns) (g .rows) t v in
+      let i : v < length t = omega (arith, b .0, length-mirror (g .columns) (g .rows) t) in (
+        omega (arith, h .size),
+        λ w.
+            b .1
+            (⊎-elim
+            (λ m. rw (e i ∙ m (at t v)) (whole-comp (g .unit) (h .shape .whole) w (good-bounded h .most v)))
+            (λ m. rw (e i ∙ m (at t v)) w)
+            (mirror-cases (g .columns) (g .rows) v)),
       )
 
   -- only the cells of one closed round are moved, none or two in each row and column, each by the same amount
-  pub step-round : OneRound W K n t (step W K n t) (roundCells K (stepRound W K n t)) (stepAmount W K n t)
-  unfolding Moved
+  pub step-round : OneRound g t (step g t) (roundCells (g .columns) (stepRound g t)) (stepAmount g t)
+  unfolding Moved step
   step-round =
+      let s = good-table h in
+      let d = stepAmount g t in
       record {
-        some = amount-pos W K n (lifted K n) z zt l;
+        some = amount-pos s l;
         inside = inside;
-        rows = round-rows W K n (lifted K n) z zt l;
-        columns = round-columns W K n (lifted K n) z zt l;
+        rows = round-rows s l;
+        columns = round-columns s l;
         moved = λ v a.
-            both-ways v (inside v a .0) (λ x y. Moved x (stepAmount W K n t) y) (λ x y. mirror-moved x y (stepAmount W K n t)) (turned-moved W K n (lifted K n) z zt l v a);
+            both-ways h (mirrored-table s) v (inside v a .0) (λ x y. Moved x d y) (λ x y. mirror-moved x y d) (mirrored-moved s l v a);
         others = λ v a.
-            by-dec (decLt v (n * K))
-            (λ i. sym (both-ways v i (λ x y. x ≡ y) (λ x y p q e. omega arith) (sym (turned-else W K n (lifted K n) z zt l v a))))
+            by-dec (decLt v (area g))
+            (λ i. sym (both-ways h (mirrored-table s) v i (λ x y. x ≡ y) (λ x y p q e. omega arith) (sym (mirrored-else s l v a))))
             (λ i.
-            List·getD-eq-default (step W K n t) 0 {n = v} (omega (arith, step-good W K n t h .size))
+            List·getD-eq-default (step g t) 0 {n = v} (omega (arith, step-good h .size))
             ∙ sym (List·getD-eq-default t 0 {n = v} (omega (arith, h .size))));
       }
 
-  -- where the round holds the total of column 3, that cell goes up
-  pub step-lifts : 3 < K → Among (lifted K n) (roundCells K (stepRound W K n t)) → at (step W K n t) (lifted K n) ≡ at t (lifted K n) + stepAmount W K n t
+  -- where the round holds the marked total, that cell goes up
+  pub step-lifts : g .marked < g .columns → let v = (g .rows - 1) * g .columns + g .marked in
+      Among v (roundCells (g .columns) (stepRound g t)) → at (step g t) v ≡ at t v + stepAmount g t
   unfolding step
   step-lifts k a =
-      let v = lifted K n in
-      let us = stepRound W K n t in
-      let s = turnOnce W K n v z in
-      let c = closed W K n v z zt l in
-      let d = mark-down W K v us z (h .shape .unit) (h .shape .wide) c (among-either v us (twins K (end K 0 us) us) a) in
-      let e = ap (λ (y : List ℕ). at y v) (turn-moves W K n v z zt l) in
-      let i : v < n * K = inside v a .0 in
-      let p = at-mirror K n s v (omega (arith, turned .even .size)) ∙ minus-last K n (h .shape .wide) 3 (at s v) (h .shape .high) k (omega arith) in
-      let q = at-mirror K n t v (omega (arith, h .size)) ∙ minus-last K n (h .shape .wide) 3 (at t v) (h .shape .high) k (omega arith) in
-      omega (arith, good-most W K n t h v, turned .most v)
+      let K = g .columns in
+      let n = g .rows in
+      let hK = h .shape .wide in
+      let v = (n - 1) * K + g .marked in
+      let d = stepAmount g t in
+      let y = good-table h in
+      let ys = mirrored-table y in
+      let s = stepMirrored g z in
+      let e = marked-at K n (g .marked) k in
+      let w = mark-moved y l (rw e a) in
+      let es = ap (at s) e in
+      let ez = ap (at z) e in
+      let i : v < area g = inside v a .0 in
+      let p = at-mirror K n s v (omega (arith, ys .even .size)) in
+      let q = at-mirror K n t v (omega (arith, h .size)) in
+      by-dec (ℕ-discrete (g .marked) 0)
+      (λ m.
+      let w' = went-up _ _ _ _ (eq-eqb (g .marked) 0 m) w in
+      let p' : at (mirror K n s) v ≡ at s v = p ∙ plus-last K n hK (g .marked) (at s v) (h .shape .high) m in
+      let q' : at z v ≡ at t v = q ∙ plus-last K n hK (g .marked) (at t v) (h .shape .high) m in
+      omega arith)
+      (λ m.
+      let w' = went-down _ _ _ _ (ne-eqb (g .marked) 0 m) w in
+      let p' = p ∙ minus-last K n hK (g .marked) (at s v) (h .shape .high) k m in
+      let q' = q ∙ minus-last K n hK (g .marked) (at t v) (h .shape .high) k m in
+      omega (arith, good-bounded h .most v, ys .most v))
 
 among? : (v : ℕ) (us : List ℕ) → Dec (Among v us)
 among? v [] = no (λ h. h)
@@ -388,11 +450,14 @@ among? v (u ∷ us) =
     by-dec (ℕ-discrete u v) (λ e. yes (inl e)) (λ e. by-dec (among? v us) (λ h. yes (inr h)) (λ q. no (λ h. ⊎-elim e q h)))
 
 -- so no step lowers it
-pub step-never-lowers : (W K n : ℕ) (t : List ℕ) → Good W K n t → 3 < K → at t (lifted K n) ≤ at (step W K n t) (lifted K n)
-step-never-lowers W K n t h k =
-    by-dec (ℕ-discrete (loose W t) 0)
-    (λ e. rw (step-stays W K n t h e) (le-refl _))
+pub step-never-lowers : {g : Grid} {t : List ℕ} → Good g t → g .marked < g .columns →
+    let v = (g .rows - 1) * g .columns + g .marked in
+    at t v ≤ at (step g t) v
+step-never-lowers {g} {t} h k =
+    let v = (g .rows - 1) * g .columns + g .marked in
+    by-dec (ℕ-discrete (loose (g .unit) t) 0)
+    (λ e. rw (step-stays h e) (le-refl _))
     (λ e.
-    by-dec (among? (lifted K n) (roundCells K (stepRound W K n t)))
-    (λ a. omega (arith, step-lifts W K n t h e k a))
-    (λ a. omega (arith, step-round W K n t h e .others (lifted K n) a)))
+    by-dec (among? v (roundCells (g .columns) (stepRound g t)))
+    (λ a. omega (arith, step-lifts h e k a))
+    (λ a. omega (arith, step-round h e .others v a)))

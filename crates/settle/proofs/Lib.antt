@@ -1,10 +1,10 @@
 pub mod LawLine
 pub mod LawNear
-pub mod LawTurn
+pub mod LawPair
 pub mod LawRound
 pub mod LawWalk
 pub mod LawLoop
-pub mod LawTurnOnce
+pub mod LawStepMirrored
 pub mod LawMirror
 pub mod LawCells
 pub mod LawTable

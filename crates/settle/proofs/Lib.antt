@@ -12,4 +12,6 @@ pub mod LawSteps
 pub mod LawAnswer
 pub mod LawShown
 pub mod LawOneRound
+pub mod LawOnce
+pub mod LawShutOut
 pub mod Worked

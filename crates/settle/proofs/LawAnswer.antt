@@ -48,40 +48,45 @@ done-only true c x m e = refl
 done-only false c x m e = clash (cc)
 
 -- `show` goes on from the answer of `step`
-module _ {g : Grid} {t lent lent' : List ℕ} {r : Settled} (a : AnswersStep g (length t) t lent lent' r) where
-  pub still-off : r ≡ Off → AnswersShow g t lent lent' Off
-  unfolding result
-  still-off e = record { is = sym e ∙ a .is; cells = a .cells ∙ ap (λ (s : Settled). result s (after (step g) (length t) t) lent) e }
+module _ {g : Grid} {f : ℕ} {t lent lent' : List ℕ} {r : Settled} (a : AnswersStep g f t lent lent' r) where
+  abbrev table : List ℕ
+  table = after (step g) f t
 
-  pub still-short : r ≡ Short → AnswersShow g t lent lent' Short
+  left : {o : Settled} → r ≡ o → lent' ≡ result o table lent
+  left e = a .cells ∙ ap (λ (s : Settled). result s table lent) e
+
+  pub still-off : f ≡ length t → r ≡ Off → AnswersShow g t lent lent' Off
   unfolding result
-  still-short e = record { is = sym e ∙ a .is; cells = a .cells ∙ ap (λ (s : Settled). result s (after (step g) (length t) t) lent) e }
+  still-off z e = record { is = rw (← z) (sym e ∙ a .is); cells = left e }
+
+  pub still-short : f ≡ length t → r ≡ Short → AnswersShow g t lent lent' Short
+  unfolding result
+  still-short z e = record { is = rw (← z) (sym e ∙ a .is); cells = left e }
 
   module _ {m : ℕ} (e : r ≡ Done m) where
     pub done-good : Good g t
     unfolding answer
     done-good = good-of g t (done-only (isGood g t) (leb (area g) (length lent)) _ _ (sym (a .is) ∙ e))
 
-    abbrev table : List ℕ
-    table = after (step g) (length t) t
-
     table-length : length table ≡ length t
-    table-length = steps-good (length t) done-good .size ∙ sym (done-good .size)
+    table-length = steps-good f done-good .size ∙ sym (done-good .size)
 
     done-cells : lent' ≡ table ++ drop (length table) lent
     unfolding result
-    done-cells = a .cells ∙ ap (λ (s : Settled). result s table lent) e
+    done-cells = left e
 
     pub done-room : length t ≤ length lent'
     done-room = omega (arith, ap length done-cells, length-append table (drop (length table) lent), table-length)
 
-    pub divided : {s : List ℕ} → s ≡ units (g .unit) (take (length t) lent') → AnswersShow g t lent (s ++ drop (length t) lent') (Done m)
+    pub divided : {s : List ℕ} → f ≡ length t → s ≡ units (g .unit) (take (length t) lent') →
+        AnswersShow g t lent (s ++ drop (length t) lent') (Done m)
     unfolding result
-    divided p =
+    divided z p =
         let u = take-at table (drop (length table) lent) (length t) table-length in
         let d = drop-at table (drop (length table) lent) (length t) table-length in
         let k = length-units (g .unit) table in
-        record { is = sym e ∙ a .is; cells = rw (shown-steps done-good, p, done-cells, u, d, k) refl }
+        let whole : shownTable g t ≡ units (g .unit) table = rw z (shown-steps done-good) in
+        record { is = rw (← z) (sym e ∙ a .is); cells = rw (whole, p, done-cells, u, d, k) refl }
 
 -- what a caller has of `show`
 pub showing : {g : Grid} {t lent lent' : List ℕ} {r : Settled} → Good g t → area g ≤ length lent → AnswersShow g t lent lent' r →

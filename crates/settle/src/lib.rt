@@ -84,10 +84,10 @@ pub fn show(
 ) -> Settled
     ensures { λ r. ⌜ AnswersShow (grid unit columns rows marked) (now (exact .entry)) (now (shown .entry)) (now (shown .exit)) r ⌝ }
 {
-    let cells = exact.len();
-    let settled = step(unit, columns, rows, marked, cells, exact, shown);
+    let settled = step(unit, columns, rows, marked, exact.len(), exact, shown);
     match settled {
         Settled::Done(steps) => {
+            let cells = exact.len();
             divide(&mut shown[..cells], unit);
             Settled::Done(steps)
         }

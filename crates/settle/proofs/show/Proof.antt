@@ -1,5 +1,6 @@
 -- The answers are those of `step`. Where it is done the table was good, so the lent cells begin with as many as are divided.
-use mathlib.Core.Path.{sym}
+use mathlib.Core.Path.{refl, sym}
+use native.Mathlib.Omega.{arith}
 use lib.Seq.{length-take-le}
 use Rattle.settle.proofs.LawAnswer.{still-off, still-short, done-good, done-room, divided}
 use borrow.Author.Needs.{needs}
@@ -7,12 +8,13 @@ use Rattle.settle.proofs.show.Statement.{statement}
 use Rattle.settle.proofs.show.Tie as tie
 
 slice-relend-prefix-divide : tie.Need-slice-relend-prefix-divide
-slice-relend-prefix-divide c = done-room (c .before .before .before .before .before .step .ensures) (c .before .settled .given .1)
+slice-relend-prefix-divide c = omega (arith, done-room (c .before .before .before .before .before .step .ensures) (c .before .settled .given .1))
 
 slice-aggregate-divide : tie.Need-slice-aggregate-divide
 slice-aggregate-divide c =
     let m = c .before .before in
-    sym (length-take-le _ _ (done-room (m .before .before .before .before .step .ensures) (m .settled .given .1)))
+    let l = done-room (m .before .before .before .before .step .ensures) (m .settled .given .1) in
+    sym (length-take-le _ _ (omega arith))
 
 divide-requires : tie.Need-divide-requires
 divide-requires c κs =
@@ -22,7 +24,7 @@ divide-requires c κs =
 returns : tie.Need-returns
 returns c =
     let m = c .before .before .before .before .before in
-    divided (m .before .before .before .before .step .ensures) (m .settled .given .1) (c .before .before .divide .ensures)
+    divided (m .before .before .before .before .step .ensures) (m .settled .given .1) refl (c .before .before .divide .ensures)
 
 pub show-spec : {M : Type 1} → statement M
 show-spec =
@@ -38,6 +40,6 @@ show-spec =
     (λ c. search needs)
     returns
     (λ c. search needs)
-    (λ c. still-off (c .before .before .before .before .step .ensures) (c .enum-told .given .1))
+    (λ c. still-off (c .before .before .before .before .step .ensures) refl (c .enum-told .given .1))
     (λ c. search needs)
-    (λ c. still-short (c .before .before .before .before .step .ensures) (c .enum-told2 .given .1)))
+    (λ c. still-short (c .before .before .before .before .step .ensures) refl (c .enum-told2 .given .1)))

@@ -32,16 +32,5 @@ returns c = written-all (c .before .loop .inv .1) (c .loop-test .left) (omega ar
 pub copy-spec : {M : Type 1} → statement M
 copy-spec =
     tie.close
-    (tie.spec
-    Inv-loop
-    μ-loop
-    (λ c. (omega arith, written-none))
-    (λ c. search needs)
-    shared-slice-read-t
-    (λ c. search needs)
-    (λ c. search needs)
-    (λ c. search needs)
-    loop-less
-    loop-again
-    (λ c. c .before .loop .inv .1 .size)
-    returns)
+    (tie.spec Inv-loop μ-loop (λ c. (omega arith, written-none)) (λ c. search needs) shared-slice-read-t (λ c. search needs) (λ c. search needs)
+    (λ c. search needs) loop-less loop-again (λ c. c .before .loop .inv .1 .size) returns)

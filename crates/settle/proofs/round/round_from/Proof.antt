@@ -129,7 +129,8 @@ seek-requires-2 c κs =
     let h = start l .pre in
     let top = l .loop .inv .5 in
     let d : c .seek .result < start l .args .k = rw (c .seek .ensures) (next (c .before) .col) in
-    record { unit = h .unit; line = column-line (h .small) (h .even) d; from = row-in h top; passed = column-passed h top d (l .loop .r) }
+    let passed = column-passed h top d (l .loop .r) in
+    record { unit = h .unit; line = column-line (h .small) (h .even) d; from = omega (arith, row-in h top, l .loop .inv .2 .row); passed = passed }
 
 loop-again : tie.Need-loop-again Inv-loop μ-loop
 loop-again c =

@@ -4,19 +4,8 @@ use mathlib.Core.Path.{_≡_, refl, sym, ap, _∙_}
 use mathlib.Core.Logic.{_≢_, _⊎_, inl, inr, ⊎-elim}
 use mathlib.Core.List.{List, [], _∷_}
 use Prim.Native.Nat.{ℕ, zero, suc, _+_, _-_, _*_, _/_, _%_, _≤_, _<_}
-use native.Mathlib.Nat.{
-  le-of-suc-le-suc,
-  zero-add,
-  div-add-mod',
-  mod-lt,
-  add-mod,
-  mod-mod,
-  div-lt-iff-lt-mul,
-  add-comm,
-  zero-mod,
-  add-zero,
-  div-eq-of-lt-le,
-}
+use native.Mathlib.Nat.{le-of-suc-le-suc, zero-add, div-add-mod', mod-lt, add-mod, mod-mod, div-lt-iff-lt-mul, add-comm, zero-mod, add-zero}
+use native.Mathlib.Nat.{div-eq-of-lt-le}
 use native.Mathlib.Decide.{ℕ-discrete, decLt}
 use native.Mathlib.Omega.{arith}
 use lib.Arith.{digits-mod, digits-lt}

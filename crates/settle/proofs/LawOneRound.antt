@@ -17,33 +17,16 @@ use Rattle.search.proofs.LawTest.{clash}
 use Rattle.settle.specs.Grid.{Grid, area}
 use Rattle.settle.specs.Shown.{at}
 use Rattle.settle.specs.Table.{limit, Good}
-use Rattle.settle.specs.Step.{
-  loose,
-  firstLoose,
-  roundFrom,
-  endColumn,
-  twin,
-  movePair,
-  moveBy,
-  room,
-  least,
-  rises,
-  part,
-  moveRound,
-  stepMirrored,
-  mirror,
-  markedCell,
-  step,
-  stepRound,
-  stepAmount,
-}
+use Rattle.settle.specs.Step.{loose, firstLoose, roundFrom, endColumn, twin, movePair, moveBy, room, least, rises, part, moveRound}
+use Rattle.settle.specs.Step.{stepMirrored, mirror, markedCell, step, stepRound, stepAmount}
 use Rattle.settle.specs.Moves.{twins, roundCells, Among, same, inRow, inColumn, OneRound}
 use Rattle.settle.specs.Inner.{Table, Apart, New, Trail, Closed, Fit}
 use Rattle.settle.proofs.LawLine.{pick-yes, pick-no, by-dec}
 use Rattle.settle.proofs.LawPair.{pair-other, pair-cell, pair-twin, twin-row, enough, twin-enough}
 use Rattle.settle.proofs.LawRound.{rest, fit-least}
 use Rattle.settle.proofs.LawStepMirrored.{end-end, round-closed, first-loose, first-none, mirrored-moves, mirrored-table}
-use Rattle.settle.proofs.LawMirror.{good-bounded, good-table, both-ways, at-mirror, length-mirror, mirror-cases, minus-last, plus-last, whole-comp}
+use Rattle.settle.proofs.LawMirror.{good-bounded, good-table, both-ways, at-mirror, length-mirror, mirror-cases, minus-last}
+use Rattle.settle.proofs.LawMirror.{plus-last, whole-comp}
 use Rattle.settle.proofs.LawSteps.{step-good, step-stays, count-good}
 
 -- a cell of the path is not in a row apart

@@ -14,38 +14,14 @@ use lib.Seq.{take-all}
 use Rattle.settle.specs.Grid.{Grid}
 use Rattle.settle.specs.Shown.{at, Whole, sum}
 use Rattle.settle.specs.Table.{limit}
-use Rattle.settle.specs.Step.{
-  whole?,
-  endColumn,
-  moveBy,
-  least,
-  part,
-  rises,
-  moveRound,
-  firstLoose,
-  roundFrom,
-  markedCell,
-  stepMirrored,
-  loose,
-  after,
-  changes,
-}
+use Rattle.settle.specs.Step.{whole?, endColumn, moveBy, least, part, rises, moveRound, firstLoose, roundFrom, markedCell}
+use Rattle.settle.specs.Step.{stepMirrored, loose, after, changes}
 use Rattle.settle.specs.Moves.{Within}
 use Rattle.settle.specs.Inner.{Closed, Fit, Start, Table, Unsettled, SoughtAll, WholeTo, Bounds, Steps}
 use Rattle.settle.proofs.LawLine.{pick-yes, pick-no, by-dec, seen}
 use Rattle.settle.proofs.LawNear.{within-refl, within-trans, within-most}
-use Rattle.settle.proofs.LawRound.{
-  Hit,
-  move-length,
-  move-row,
-  round-column,
-  move-within,
-  round-count,
-  fit-least,
-  hit-least,
-  cell-whole,
-  cell-loose,
-}
+use Rattle.settle.proofs.LawRound.{Hit, move-length, move-row, round-column, move-within, round-count, fit-least, hit-least}
+use Rattle.settle.proofs.LawRound.{cell-whole, cell-loose}
 use Rattle.settle.proofs.LawTable.{small-of}
 use Rattle.settle.proofs.LawWalk.{free-most, way-start, walk-round, end-take}
 

@@ -14,26 +14,10 @@ use Rattle.settle.specs.Moves.{Within}
 use Rattle.settle.specs.Inner.{Bounded, Table, Steps}
 use Rattle.settle.proofs.LawLine.{pick-yes, pick-no, by-dec}
 use Rattle.settle.proofs.LawNear.{within-refl, within-trans}
-use Rattle.settle.proofs.LawStepMirrored.{
-  kept-table,
-  mirrored-kept,
-  mirrored-table,
-  mirrored-count,
-  mirrored-stays,
-  settle-kept,
-  settle-whole,
-  count-most,
-}
-use Rattle.settle.proofs.LawMirror.{
-  good-bounded,
-  table-bounded,
-  good-table,
-  kept-good,
-  kept-within,
-  mirror-mirror,
-  length-mirror,
-  count-mirror,
-}
+use Rattle.settle.proofs.LawStepMirrored.{kept-table, mirrored-kept, mirrored-table, mirrored-count, mirrored-stays, settle-kept}
+use Rattle.settle.proofs.LawStepMirrored.{settle-whole, count-most}
+use Rattle.settle.proofs.LawMirror.{good-bounded, table-bounded, good-table, kept-good, kept-within, mirror-mirror, length-mirror}
+use Rattle.settle.proofs.LawMirror.{count-mirror}
 
 module _ {g : Grid} {t : List ℕ} (h : Good g t) where
   -- the mirror of a step

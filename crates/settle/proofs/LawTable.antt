@@ -16,19 +16,7 @@ use Rattle.search.specs.Test.{all}
 use Rattle.search.proofs.LawTest.{and-left, and-right, all-at, all-of}
 use Rattle.settle.specs.Grid.{Grid, area}
 use Rattle.settle.specs.Shown.{at, sum}
-use Rattle.settle.specs.Table.{
-  limit,
-  mostColumns,
-  mostRows,
-  Shape,
-  Good,
-  cellFits,
-  rowAddsUp,
-  columnAddsUp,
-  isSmall,
-  isSized,
-  isGood,
-}
+use Rattle.settle.specs.Table.{limit, mostColumns, mostRows, Shape, Good, cellFits, rowAddsUp, columnAddsUp, isSmall, isSized, isGood}
 use Rattle.settle.specs.Inner.{Small, Frame, Line}
 use Rattle.settle.proofs.LawLine.{by-dec}
 

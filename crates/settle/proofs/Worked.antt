@@ -3,24 +3,8 @@ use mathlib.Core.Path.{_≡_, refl}
 use mathlib.Core.List.{[], _∷_}
 use native.Mathlib.Decide.{ℕ-discrete, decLt, decLe}
 use Rattle.settle.specs.Grid.{grid}
-use Rattle.settle.specs.Step.{
-  seek,
-  closes,
-  walk,
-  endColumn,
-  moveBy,
-  least,
-  rises,
-  moveRound,
-  stepMirrored,
-  markedCell,
-  mirrorCell,
-  mirrors,
-  step,
-  after,
-  units,
-  shownTable,
-}
+use Rattle.settle.specs.Step.{seek, closes, walk, endColumn, moveBy, least, rises, moveRound, stepMirrored, markedCell, mirrorCell}
+use Rattle.settle.specs.Step.{mirrors, step, after, units, shownTable}
 
 -- two lines of 150,000 units in grams: 1 and 2, under a total of 3
 two-lines : shownTable (grid 100000 4 3 3) (150000 ∷ 0 ∷ 0 ∷ 150000 ∷ 150000 ∷ 0 ∷ 0 ∷ 150000 ∷ 300000 ∷ 0 ∷ 0 ∷ 300000 ∷ [])

@@ -29,17 +29,7 @@ returns c =
 pub show-spec : {M : Type 1} → statement M
 show-spec =
     tie.close
-    (tie.spec
-    (λ c κs. search needs)
-    (λ c. search needs)
-    slice-relend-prefix-divide
-    slice-aggregate-divide
-    divide-requires
-    (λ c. search needs)
-    (λ c. search needs)
-    (λ c. search needs)
-    returns
-    (λ c. search needs)
-    (λ c. still-off (c .before .before .before .before .step .ensures) refl (c .enum-told .given .1))
-    (λ c. search needs)
+    (tie.spec (λ c κs. search needs) (λ c. search needs) slice-relend-prefix-divide slice-aggregate-divide divide-requires
+    (λ c. search needs) (λ c. search needs) (λ c. search needs) returns (λ c. search needs)
+    (λ c. still-off (c .before .before .before .before .step .ensures) refl (c .enum-told .given .1)) (λ c. search needs)
     (λ c. still-short (c .before .before .before .before .step .ensures) refl (c .enum-told2 .given .1)))

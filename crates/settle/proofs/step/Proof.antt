@@ -38,12 +38,5 @@ returns-3 c =
 pub step-spec : {M : Type 1} → statement M
 step-spec =
     tie.close
-    (tie.spec
-    (λ c κs. search needs)
-    returns
-    (λ c. search needs)
-    slice-aggregate-step-in
-    step-in-requires
-    (λ c. search needs)
-    returns-2
+    (tie.spec (λ c κs. search needs) returns (λ c. search needs) slice-aggregate-step-in step-in-requires (λ c. search needs) returns-2
     returns-3)

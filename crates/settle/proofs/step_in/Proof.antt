@@ -37,10 +37,4 @@ returns c =
 pub step-in-spec : {M : Type 1} → statement M
 step-in-spec =
     tie.close
-    (tie.spec
-    copy-requires
-    mirror-requires
-    settle-requires
-    mirror-requires-2
-    (λ c. search needs)
-    returns)
+    (tie.spec copy-requires mirror-requires settle-requires mirror-requires-2 (λ c. search needs) returns)

@@ -41,17 +41,5 @@ returns c = written-all (c .before .loop .inv .1) (c .loop-test .left) (length-m
 pub mirror-spec : {M : Type 1} → statement M
 mirror-spec =
     tie.close
-    (tie.spec
-    Inv-loop
-    μ-loop
-    (λ c. (omega arith, written-none))
-    (λ c. search needs)
-    (λ c. search needs)
-    mirror-cell-requires
-    (λ c. search needs)
-    (λ c. search needs)
-    (λ c. search needs)
-    loop-less
-    loop-again
-    (λ c. c .before .loop .inv .1 .size)
-    returns)
+    (tie.spec Inv-loop μ-loop (λ c. (omega arith, written-none)) (λ c. search needs) (λ c. search needs) mirror-cell-requires
+    (λ c. search needs) (λ c. search needs) (λ c. search needs) loop-less loop-again (λ c. c .before .loop .inv .1 .size) returns)

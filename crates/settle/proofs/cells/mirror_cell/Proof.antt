@@ -28,14 +28,5 @@ returns-4 c = sym (pick-no (decLt _ _) _ _ (λ q. omega (arith, c .before .if1 .
 pub mirror-cell-spec : {M : Type 1} → statement M
 mirror-cell-spec =
     tie.close
-    (tie.spec
-    (λ c. search needs)
-    (λ c. search needs)
-    (λ c. search needs)
-    (λ c. search needs)
-    (λ c. search needs)
-    (λ c. search needs)
-    returns
-    returns-2
-    returns-3
-    returns-4)
+    (tie.spec (λ c. search needs) (λ c. search needs) (λ c. search needs) (λ c. search needs) (λ c. search needs) (λ c. search needs)
+    returns returns-2 returns-3 returns-4)

@@ -64,25 +64,8 @@ returns c =
 pub least-spec : {M : Type 1} → statement M
 least-spec =
     tie.close
-    (tie.spec
-    Inv-loop
-    μ-loop
-    loop-holds
-    (λ c. search needs)
-    (λ c. search needs)
-    (λ c. search needs)
-    mul-d
-    (λ c. omega (arith, hop (c .before) .twin-inside))
-    (λ c. omega (arith, hop (c .before) .inside))
-    (λ c. hop (c .before .before) .inside)
-    (λ c κs. search needs)
-    (λ c. omega (arith, hop (c .before .before .before) .twin-inside))
-    (λ c. hop (c .before .before .before .before) .twin-inside)
-    (λ c κs. search needs)
-    (λ c κs. search needs)
-    (λ c κs. search needs)
-    (λ c. search needs)
-    (λ c. search needs)
-    (λ c. search needs)
-    loop-again
-    returns)
+    (tie.spec Inv-loop μ-loop loop-holds (λ c. search needs) (λ c. search needs) (λ c. search needs) mul-d
+    (λ c. omega (arith, hop (c .before) .twin-inside)) (λ c. omega (arith, hop (c .before) .inside)) (λ c. hop (c .before .before) .inside)
+    (λ c κs. search needs) (λ c. omega (arith, hop (c .before .before .before) .twin-inside))
+    (λ c. hop (c .before .before .before .before) .twin-inside) (λ c κs. search needs) (λ c κs. search needs) (λ c κs. search needs)
+    (λ c. search needs) (λ c. search needs) (λ c. search needs) loop-again returns)

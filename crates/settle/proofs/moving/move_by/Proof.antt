@@ -102,30 +102,11 @@ returns c =
 pub move-by-spec : {M : Type 1} → statement M
 move-by-spec =
     tie.close
-    (tie.spec
-    Inv-loop
-    μ-loop
-    (λ c. (omega arith, refl, c .pre .bounds .most, c .pre .fit, refl))
-    (λ c. search needs)
-    (λ c. search needs)
-    (λ c. search needs)
-    mul-d
-    (λ c. omega (arith, pair (c .before) .twin-inside))
-    (λ c. omega (arith, pair (c .before) .inside))
-    slice-read-a
-    (λ c. omega (arith, pair (c .before .before) .twin-inside))
-    slice-read-b
-    (λ c. omega (arith, pair (c .before .before .before) .more))
-    (λ c. omega (arith, pair (c .before .before .before) .less))
-    (λ c. omega (arith, pair (c .before .before .before) .inside))
-    slice-write-t
-    (λ c. omega (arith, pair (c .before .before .before) .twin-more))
-    (λ c. omega (arith, pair (c .before .before .before) .twin-less))
-    (λ c. omega (arith, pair (c .before .before .before) .twin-inside))
-    slice-write-t-2
-    (λ c. search needs)
-    (λ c. search needs)
-    (λ c. search needs)
-    loop-again
-    (λ c. c .before .loop .inv .1)
-    returns)
+    (tie.spec Inv-loop μ-loop (λ c. (omega arith, refl, c .pre .bounds .most, c .pre .fit, refl)) (λ c. search needs) (λ c. search needs)
+    (λ c. search needs) mul-d (λ c. omega (arith, pair (c .before) .twin-inside)) (λ c. omega (arith, pair (c .before) .inside))
+    slice-read-a (λ c. omega (arith, pair (c .before .before) .twin-inside)) slice-read-b
+    (λ c. omega (arith, pair (c .before .before .before) .more)) (λ c. omega (arith, pair (c .before .before .before) .less))
+    (λ c. omega (arith, pair (c .before .before .before) .inside)) slice-write-t
+    (λ c. omega (arith, pair (c .before .before .before) .twin-more)) (λ c. omega (arith, pair (c .before .before .before) .twin-less))
+    (λ c. omega (arith, pair (c .before .before .before) .twin-inside)) slice-write-t-2 (λ c. search needs) (λ c. search needs)
+    (λ c. search needs) loop-again (λ c. c .before .loop .inv .1) returns)

@@ -30,15 +30,5 @@ returns c =
 pub move-round-spec : {M : Type 1} → statement M
 move-round-spec =
     tie.close
-    (tie.spec
-    (λ c. search needs)
-    (λ c. search needs)
-    (λ c. search needs)
-    (λ c. search needs)
-    (λ c κs. search needs)
-    least-requires
-    (λ c κs. search needs)
-    (λ c κs. search needs)
-    move-by-requires
-    (λ c. search needs)
-    returns)
+    (tie.spec (λ c. search needs) (λ c. search needs) (λ c. search needs) (λ c. search needs) (λ c κs. search needs) least-requires
+    (λ c κs. search needs) (λ c κs. search needs) move-by-requires (λ c. search needs) returns)

@@ -52,20 +52,7 @@ returns-2 c =
 pub closes-spec : {M : Type 1} → statement M
 closes-spec =
     tie.close
-    (tie.spec
-    Inv-loop
-    μ-loop
-    (λ c. omega (arith, c .pre .line .small))
-    (λ c. (omega arith, refl, omega arith))
-    (λ c. search needs)
-    (λ c. search needs)
-    (λ c. search needs)
-    (λ c. omega (arith, small (c .before .before)))
-    (λ c. omega (arith, small (c .before .before)))
-    (λ c. omega (arith, inside (c .before .before .before)))
-    (λ c. search needs)
-    returns
-    (λ c. search needs)
-    (λ c. search needs)
-    loop-again
+    (tie.spec Inv-loop μ-loop (λ c. omega (arith, c .pre .line .small)) (λ c. (omega arith, refl, omega arith)) (λ c. search needs)
+    (λ c. search needs) (λ c. search needs) (λ c. omega (arith, small (c .before .before))) (λ c. omega (arith, small (c .before .before)))
+    (λ c. omega (arith, inside (c .before .before .before))) (λ c. search needs) returns (λ c. search needs) (λ c. search needs) loop-again
     returns-2)

@@ -9,23 +9,8 @@ use lib.Seq.{take-all}
 use Rattle.settle.specs.Inner.{Line}
 use Rattle.settle.specs.Step as spec
 use Rattle.settle.specs.Table.{mostColumns}
-use Rattle.settle.proofs.LawWalk.{
-  Way,
-  row-in,
-  column-passed,
-  free,
-  free-most,
-  way-start,
-  way-next,
-  walk-stop,
-  walk-on,
-  row-line,
-  column-line,
-  pushing,
-  closing,
-  free-next,
-  free-some,
-}
+use Rattle.settle.proofs.LawWalk.{Way, row-in, column-passed, free, free-most, way-start, way-next, walk-stop, walk-on, row-line}
+use Rattle.settle.proofs.LawWalk.{column-line, pushing, closing, free-next, free-some}
 use borrow.Author.Needs.{needs}
 use Rattle.settle.proofs.round.round_from.Statement.{statement}
 use Rattle.settle.proofs.round.round_from.Tie as tie
@@ -154,29 +139,10 @@ returns-2 c = let l = c .before .loop in absurd (omega (arith, free-some (l .inv
 pub round-from-spec : {M : Type 1} → statement M
 round-from-spec =
     tie.close
-    (tie.spec
-    Inv-loop
-    μ-loop
-    (λ c. let h = c .before .pre .small .wide in omega arith)
-    (λ c. let h = c .before .pre .small .wide in omega arith)
-    loop-holds
-    (λ c. search needs)
-    (λ c. search needs)
-    (λ c. search needs)
-    (λ c. search needs)
-    closes-requires
-    (λ c. search needs)
-    (λ c. omega (arith, line (c .before .before .before .before) .small))
-    add-us
-    (λ c. omega (arith, c .before .before .before .before .loop .inv .1))
-    array-write-us
-    (λ c. c .before .before .before .before .loop .inv .1)
-    add-end
-    add-end-2
-    returns
-    (λ c. omega (arith, line (c .before .before .before .before .before) .small))
-    seek-requires
-    seek-requires-2
-    (λ c. search needs)
-    loop-again
-    returns-2)
+    (tie.spec Inv-loop μ-loop (λ c. let h = c .before .pre .small .wide in omega arith)
+    (λ c. let h = c .before .pre .small .wide in omega arith) loop-holds (λ c. search needs) (λ c. search needs) (λ c. search needs)
+    (λ c. search needs) closes-requires (λ c. search needs) (λ c. omega (arith, line (c .before .before .before .before) .small)) add-us
+    (λ c. omega (arith, c .before .before .before .before .loop .inv .1)) array-write-us
+    (λ c. c .before .before .before .before .loop .inv .1) add-end add-end-2 returns
+    (λ c. omega (arith, line (c .before .before .before .before .before) .small)) seek-requires seek-requires-2 (λ c. search needs)
+    loop-again returns-2)

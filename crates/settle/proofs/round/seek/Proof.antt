@@ -60,18 +60,8 @@ returns-2 c =
 pub seek-spec : {M : Type 1} → statement M
 seek-spec =
     tie.close
-    (tie.spec
-    Inv-loop
-    μ-loop
-    (λ c. omega (arith, c .pre .line .small, mul-le-mul-right (c .args .s) (c .pre .from)))
-    (λ c. omega (arith, c .pre .line .small, mul-le-mul-right (c .args .s) (c .pre .from)))
-    loop-holds
+    (tie.spec Inv-loop μ-loop (λ c. omega (arith, c .pre .line .small, mul-le-mul-right (c .args .s) (c .pre .from)))
+    (λ c. omega (arith, c .pre .line .small, mul-le-mul-right (c .args .s) (c .pre .from))) loop-holds
     (λ c. omega (arith, inside (c .before .before) (c .before .loop-test .taken)))
-    (λ c. inside (c .before .before .before) (c .before .before .loop-test .taken))
-    (λ c. search needs)
-    returns
-    add-i-2
-    (λ c. omega arith)
-    (λ c. omega arith)
-    loop-again
-    returns-2)
+    (λ c. inside (c .before .before .before) (c .before .before .loop-test .taken)) (λ c. search needs) returns add-i-2 (λ c. omega arith)
+    (λ c. omega arith) loop-again returns-2)

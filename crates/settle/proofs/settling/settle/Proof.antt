@@ -5,16 +5,8 @@ use Prim.Native.Nat.{_-_}
 use native.Mathlib.Omega.{arith}
 use Rattle.settle.specs.Grid.{grid}
 use Rattle.settle.specs.Step.{firstLoose}
-use Rattle.settle.proofs.LawStepMirrored.{
-  Settling,
-  settling-start,
-  settling-next,
-  settling-end,
-  settling-done,
-  unsettled,
-  sought-all,
-  sought-on,
-}
+use Rattle.settle.proofs.LawStepMirrored.{Settling, settling-start, settling-next, settling-end, settling-done, unsettled}
+use Rattle.settle.proofs.LawStepMirrored.{sought-all, sought-on}
 use Rattle.settle.proofs.settling.settle.Statement.{statement}
 use Rattle.settle.proofs.settling.settle.Tie as tie
 
@@ -69,17 +61,5 @@ same-length-2 c =
 pub settle-spec : {M : Type 1} → statement M
 settle-spec =
     tie.close
-    (tie.spec
-    Inv-loop
-    μ-loop
-    first-loose-requires
-    loop-holds
-    same-length
-    returns
-    step-mirrored-requires
-    add-steps
-    first-loose-requires-2
-    loop-less
-    loop-again
-    same-length-2
-    (λ c. settling-done (c .before .loop .inv .0) (c .loop-test .left)))
+    (tie.spec Inv-loop μ-loop first-loose-requires loop-holds same-length returns step-mirrored-requires add-steps first-loose-requires-2
+    loop-less loop-again same-length-2 (λ c. settling-done (c .before .loop .inv .0) (c .loop-test .left)))

@@ -25,13 +25,5 @@ returns c =
 pub step-mirrored-spec : {M : Type 1} → statement M
 step-mirrored-spec =
     tie.close
-    (tie.spec
-    (λ c κs. start-of (c .before .before .pre))
-    marked-cell-requires
-    (λ c. search needs)
-    (λ c. search needs)
-    (λ c. search needs)
-    (λ c. search needs)
-    move-round-requires
-    (λ c. search needs)
-    returns)
+    (tie.spec (λ c κs. start-of (c .before .before .pre)) marked-cell-requires (λ c. search needs) (λ c. search needs) (λ c. search needs)
+    (λ c. search needs) move-round-requires (λ c. search needs) returns)

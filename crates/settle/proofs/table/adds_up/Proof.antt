@@ -54,18 +54,6 @@ returns-2 c =
 pub adds-up-spec : {M : Type 1} → statement M
 adds-up-spec =
     tie.close
-    (tie.spec
-    Inv-loop
-    μ-loop
-    loop-holds
-    (λ c. omega (arith, inside c))
-    (λ c. inside (c .before))
-    returns
-    (λ c. omega (arith, inside (c .before .before)))
-    (λ c. inside (c .before .before .before))
-    (λ c. search needs)
-    add-i
-    (λ c. search needs)
-    (λ c. search needs)
-    loop-again
-    returns-2)
+    (tie.spec Inv-loop μ-loop loop-holds (λ c. omega (arith, inside c)) (λ c. inside (c .before)) returns
+    (λ c. omega (arith, inside (c .before .before))) (λ c. inside (c .before .before .before)) (λ c. search needs) add-i (λ c. search needs)
+    (λ c. search needs) loop-again returns-2)

@@ -25,13 +25,5 @@ loop-again c =
 pub cells-fit-spec : {M : Type 1} → statement M
 cells-fit-spec =
     tie.close
-    (tie.spec
-    Inv-loop
-    μ-loop
-    (λ c. (omega arith, all-start _))
-    (λ c. search needs)
-    (λ c. search needs)
-    (λ c. search needs)
-    (λ c. search needs)
-    loop-again
-    (λ c. all-done _ (c .before .loop .inv) (c .loop-test .left)))
+    (tie.spec Inv-loop μ-loop (λ c. (omega arith, all-start _)) (λ c. search needs) (λ c. search needs) (λ c. search needs)
+    (λ c. search needs) loop-again (λ c. all-done _ (c .before .loop .inv) (c .loop-test .left)))

@@ -49,18 +49,7 @@ loop-again c =
 pub columns-add-up-spec : {M : Type 1} → statement M
 columns-add-up-spec =
     tie.close
-    (tie.spec
-    Inv-loop
-    μ-loop
-    (λ c. search needs)
-    mul-last
-    (λ c. (omega arith, refl, all-start _))
-    add-adds-up
-    mul-adds-up
-    shared-slice-read-adds-up
-    (λ c. search needs)
-    (λ c κs. column-rest (start (c .before) .pre) (c .before .loop-test .taken))
-    (λ c. search needs)
-    (λ c. search needs)
-    loop-again
+    (tie.spec Inv-loop μ-loop (λ c. search needs) mul-last (λ c. (omega arith, refl, all-start _)) add-adds-up mul-adds-up
+    shared-slice-read-adds-up (λ c. search needs) (λ c κs. column-rest (start (c .before) .pre) (c .before .loop-test .taken))
+    (λ c. search needs) (λ c. search needs) loop-again
     (λ c. all-done _ (c .before .loop .inv .0, c .before .loop .inv .2) (c .loop-test .left)))

@@ -31,10 +31,4 @@ returns-2 c m = rw (← c .before .is-sized .ensures m, c .if1 .left) refl
 pub is-good-spec : {M : Type 1} → statement M
 is-good-spec =
     tie.close
-    (tie.spec
-    (λ c κs. search needs)
-    (λ c κs. search needs)
-    rows-add-up-requires
-    columns-add-up-requires
-    returns
-    returns-2)
+    (tie.spec (λ c κs. search needs) (λ c κs. search needs) rows-add-up-requires columns-add-up-requires returns returns-2)

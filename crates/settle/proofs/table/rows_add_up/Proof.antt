@@ -49,17 +49,6 @@ loop-again c =
 pub rows-add-up-spec : {M : Type 1} → statement M
 rows-add-up-spec =
     tie.close
-    (tie.spec
-    Inv-loop
-    μ-loop
-    (λ c. (omega arith, all-start _))
-    mul-b
-    mul-adds-up
-    shared-slice-read-adds-up
-    add-adds-up
-    (λ c. search needs)
-    (λ c κs. row-rest (start (c .before) .pre) (c .before .loop-test .taken))
-    (λ c. search needs)
-    (λ c. search needs)
-    loop-again
+    (tie.spec Inv-loop μ-loop (λ c. (omega arith, all-start _)) mul-b mul-adds-up shared-slice-read-adds-up add-adds-up (λ c. search needs)
+    (λ c κs. row-rest (start (c .before) .pre) (c .before .loop-test .taken)) (λ c. search needs) (λ c. search needs) loop-again
     (λ c. all-done _ (c .before .loop .inv) (c .loop-test .left)))

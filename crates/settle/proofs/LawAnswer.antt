@@ -12,7 +12,7 @@ use Rattle.search.proofs.LawTest.{clash}
 use Rattle.settle.specs.Grid.{Grid, area}
 use Rattle.settle.specs.Table.{Good, isGood}
 use Rattle.settle.specs.Step.{step, after, changes, units, shownTable}
-use Rattle.settle.specs.Answer.{answer, result, Answers, AnswersStep, AnswersShow, Showing}
+use Rattle.settle.specs.Answer.{answer, result, AnswersStep, AnswersShow, Showing}
 use Rattle.settle.specs.Inner.{Steps}
 use Rattle.settle.specs.declared.Settled.{Settled}
 use Rattle.settle.specs.declared.Settled.the-variants.{Done, Off, Short}

@@ -1,10 +1,9 @@
 -- Tables that demand 3 shuts out: one cell or one sum of each is not what the demand says.
 use mathlib.Core.Path.{_≡_}
 use mathlib.Core.List.{List, [], _∷_}
-use Prim.Native.Nat.{ℕ, _+_, _-_, _*_, _/_, _≤_, _<_}
+use Prim.Native.Nat.{ℕ, _+_, _-_, _/_, _≤_, _<_}
 use native.Mathlib.Nat.{le-div-iff-mul-le}
 use native.Mathlib.Omega.{arith}
-use Rattle.search.proofs.LawTest.{clash}
 use Rattle.settle.specs.Grid.{Grid, grid, area}
 use Rattle.settle.specs.Shown.{at, Whole, sum, Shown}
 

@@ -4,7 +4,7 @@ use mathlib.Core.Path.{_≡_, refl, sym, ap, _∙_}
 use mathlib.Core.Logic.{_≢_}
 use mathlib.Core.List.{List, [], _∷_}
 use mathlib.Core.Bool.{Bool, not}
-use Prim.Native.Nat.{ℕ, zero, suc, _+_, _-_, _*_, _/_, _%_, _≤_, _<_}
+use Prim.Native.Nat.{ℕ, zero, suc, _+_, _-_, _*_, _%_, _≤_, _<_}
 use native.Mathlib.Nat.{le-of-suc-le-suc, mul-one, zero-add, le-refl, le-of-eq, sub-zero}
 use native.Mathlib.Decide.{ℕ-discrete, decLt}
 use native.Mathlib.Omega.{arith}
@@ -13,7 +13,6 @@ use lib.ListN.{length, getD}
 use lib.Seq.{take-all}
 use Rattle.settle.specs.Grid.{Grid}
 use Rattle.settle.specs.Shown.{at, Whole, sum}
-use Rattle.settle.specs.Table.{limit}
 use Rattle.settle.specs.Step.{whole?, endColumn, moveBy, least, part, rises, moveRound, firstLoose, roundFrom, markedCell}
 use Rattle.settle.specs.Step.{stepMirrored, loose, after, changes}
 use Rattle.settle.specs.Moves.{Within}

@@ -1,7 +1,7 @@
 -- The test for a good table goes conjunct by conjunct the way the statement goes field by field, so that each says the other. A line is added
 -- up by taking its cells off the total: what is left and what was taken off always make the total.
 use mathlib.Core.Path.{_≡_, refl, sym, ap, _∙_}
-use mathlib.Core.Bool.{Bool, true, false, _&&_}
+use mathlib.Core.Bool.{true, false, _&&_}
 use mathlib.Core.List.{List}
 use Prim.Native.Nat.{ℕ, zero, suc, _+_, _-_, _*_, _%_, _≤_, _<_}
 use native.Mathlib.Nat.{mul-le-mul, mul-le-mul-right}

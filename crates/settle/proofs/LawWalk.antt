@@ -4,7 +4,7 @@ use mathlib.Core.Path.{_≡_, refl, sym, ap, _∙_}
 use mathlib.Core.Logic.{_≢_, inr}
 use mathlib.Core.List.{List, [], _∷_}
 use Prim.Native.Nat.{ℕ, zero, suc, _+_, _-_, _*_, _/_, _%_, _≤_, _<_}
-use native.Mathlib.Nat.{mod-lt, le-of-suc-le-suc, mul-one, add-comm, div-lt-iff-lt-mul, div-add-mod', mul-le-mul-left, mul-le-mul-right}
+use native.Mathlib.Nat.{mod-lt, le-of-suc-le-suc, mul-one, add-comm, div-lt-iff-lt-mul, div-add-mod', mul-le-mul-right}
 use native.Mathlib.Nat.{div-mul-le-self}
 use native.Mathlib.Decide.{ℕ-discrete, decLt}
 use native.Mathlib.Omega.{arith}

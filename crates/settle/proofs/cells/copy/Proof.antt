@@ -15,12 +15,6 @@ Inv-loop from t₀ i₀ t i = (i ≤ length t₀) × Written (λ j x. at from j)
 abbrev μ-loop : tie.MeasureT-loop
 μ-loop from t₀ i₀ t i = length t₀ - i
 
-shared-slice-read-t : tie.Need-shared-slice-read-t Inv-loop μ-loop
-shared-slice-read-t c = omega (arith, c .before .before .loop .inv .1 .size)
-
-loop-less : tie.Need-loop-less Inv-loop μ-loop
-loop-less c = omega (arith, c .before .before .loop .inv .1 .size)
-
 loop-again : tie.Need-loop-again Inv-loop μ-loop
 loop-again c =
     let w = c .before .before .loop .inv .1 in
@@ -32,5 +26,6 @@ returns c = written-all (c .before .loop .inv .1) (c .loop-test .left) (omega ar
 pub copy-spec : {M : Type 1} → statement M
 copy-spec =
     tie.close
-    (tie.spec Inv-loop μ-loop (λ c. (omega arith, written-none)) (λ c. search needs) shared-slice-read-t (λ c. search needs) (λ c. search needs)
-    (λ c. search needs) loop-less loop-again (λ c. c .before .loop .inv .1 .size) returns)
+    (tie.spec Inv-loop μ-loop (λ c. (omega arith, written-none)) (λ c. search needs)
+    (λ c. omega (arith, c .before .before .loop .inv .1 .size)) (λ c. search needs) (λ c. search needs) (λ c. search needs)
+    (λ c. omega (arith, c .before .before .loop .inv .1 .size)) loop-again (λ c. c .before .loop .inv .1 .size) returns)

@@ -14,9 +14,6 @@ Inv-loop t₀ w i₀ t i = (i ≤ length t₀) × Written (λ j x. x / w) i t₀
 abbrev μ-loop : tie.MeasureT-loop
 μ-loop t₀ w i₀ t i = length t₀ - i
 
-loop-less : tie.Need-loop-less Inv-loop μ-loop
-loop-less c = omega (arith, c .before .before .loop .inv .1 .size)
-
 loop-again : tie.Need-loop-again Inv-loop μ-loop
 loop-again c =
     let w = c .before .before .loop .inv .1 in
@@ -29,4 +26,5 @@ pub divide-spec : {M : Type 1} → statement M
 divide-spec =
     tie.close
     (tie.spec Inv-loop μ-loop (λ c. (omega arith, written-none)) (λ c. search needs) (λ c. search needs) (λ c. search needs)
-    (λ c. search needs) (λ c. search needs) (λ c. search needs) loop-less loop-again (λ c. c .before .loop .inv .1 .size) returns)
+    (λ c. search needs) (λ c. search needs) (λ c. search needs) (λ c. omega (arith, c .before .before .loop .inv .1 .size)) loop-again
+    (λ c. c .before .loop .inv .1 .size) returns)

@@ -26,9 +26,6 @@ mirror-cell-requires c κs =
       most = rw (w .rest (l .loop .i) (omega arith)) (h .most (l .loop .i));
     }
 
-loop-less : tie.Need-loop-less Inv-loop μ-loop
-loop-less c = omega (arith, c .before .before .loop-test .taken, c .before .before .before .loop .inv .1 .size)
-
 loop-again : tie.Need-loop-again Inv-loop μ-loop
 loop-again c =
     let i = c .before .before in
@@ -42,4 +39,6 @@ pub mirror-spec : {M : Type 1} → statement M
 mirror-spec =
     tie.close
     (tie.spec Inv-loop μ-loop (λ c. (omega arith, written-none)) (λ c. search needs) (λ c. search needs) mirror-cell-requires
-    (λ c. search needs) (λ c. search needs) (λ c. search needs) loop-less loop-again (λ c. c .before .loop .inv .1 .size) returns)
+    (λ c. search needs) (λ c. search needs) (λ c. search needs)
+    (λ c. omega (arith, c .before .before .loop-test .taken, c .before .before .before .loop .inv .1 .size)) loop-again
+    (λ c. c .before .loop .inv .1 .size) returns)

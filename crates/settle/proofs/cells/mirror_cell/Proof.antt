@@ -1,6 +1,5 @@
 -- Each of the four results is the definition's, by the two tests that led to it.
 use mathlib.Core.Path.{sym, _∙_}
-use Prim.Native.Nat.{_+_, _*_, _<_}
 use native.Mathlib.Decide.{ℕ-discrete, decLt}
 use native.Mathlib.Omega.{arith}
 use Rattle.settle.specs.Step.{mirrorCell}

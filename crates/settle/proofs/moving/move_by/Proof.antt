@@ -67,9 +67,6 @@ pair c =
 mul-d : tie.Need-mul-d Inv-loop μ-loop
 mul-d c = omega (arith, div-mul-le-self (cell (c .before)) (c .before .before .before .args .k), pair (c .before) .inside)
 
-slice-read-a : tie.Need-slice-read-a Inv-loop μ-loop
-slice-read-a c = omega (arith, pair (c .before .before) .inside, c .before .before .before .loop .inv .1)
-
 slice-read-b : tie.Need-slice-read-b Inv-loop μ-loop
 slice-read-b c = omega (arith, pair (c .before .before .before) .twin-inside, c .before .before .before .before .loop .inv .1)
 
@@ -104,9 +101,9 @@ move-by-spec =
     tie.close
     (tie.spec Inv-loop μ-loop (λ c. (omega arith, refl, c .pre .bounds .most, c .pre .fit, refl)) (λ c. search needs) (λ c. search needs)
     (λ c. search needs) mul-d (λ c. omega (arith, pair (c .before) .twin-inside)) (λ c. omega (arith, pair (c .before) .inside))
-    slice-read-a (λ c. omega (arith, pair (c .before .before) .twin-inside)) slice-read-b
-    (λ c. omega (arith, pair (c .before .before .before) .more)) (λ c. omega (arith, pair (c .before .before .before) .less))
-    (λ c. omega (arith, pair (c .before .before .before) .inside)) slice-write-t
-    (λ c. omega (arith, pair (c .before .before .before) .twin-more)) (λ c. omega (arith, pair (c .before .before .before) .twin-less))
-    (λ c. omega (arith, pair (c .before .before .before) .twin-inside)) slice-write-t-2 (λ c. search needs) (λ c. search needs)
-    (λ c. search needs) loop-again (λ c. c .before .loop .inv .1) returns)
+    (λ c. omega (arith, pair (c .before .before) .inside, c .before .before .before .loop .inv .1))
+    (λ c. omega (arith, pair (c .before .before) .twin-inside)) slice-read-b (λ c. omega (arith, pair (c .before .before .before) .more))
+    (λ c. omega (arith, pair (c .before .before .before) .less)) (λ c. omega (arith, pair (c .before .before .before) .inside))
+    slice-write-t (λ c. omega (arith, pair (c .before .before .before) .twin-more))
+    (λ c. omega (arith, pair (c .before .before .before) .twin-less)) (λ c. omega (arith, pair (c .before .before .before) .twin-inside))
+    slice-write-t-2 (λ c. search needs) (λ c. search needs) (λ c. search needs) loop-again (λ c. c .before .loop .inv .1) returns)

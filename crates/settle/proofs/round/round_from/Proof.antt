@@ -2,7 +2,7 @@
 -- its start. Each turn takes a column off those that are new, so the loop's test never ends it: it returns where the round closes.
 use mathlib.Core.Path.{_≡_, refl, sym, ap, _∙_}
 use mathlib.Core.List.{List, [], _∷_}
-use Prim.Native.Nat.{ℕ, suc, _+_, _-_, _*_, _/_, _%_, _≤_, _<_}
+use Prim.Native.Nat.{ℕ, suc, _+_, _-_, _*_, _/_, _≤_, _<_}
 use native.Mathlib.Omega.{arith}
 use lib.ListN.{length, take, drop, length-set, length-drop}
 use lib.Seq.{take-all}
@@ -80,12 +80,6 @@ add-us c = let l = c .before .before .before .before in omega (arith, line l .sm
 array-write-us : tie.Need-array-write-us Inv-loop μ-loop
 array-write-us c = omega (arith, c .before .before .before .before .loop .inv .1, c .before .before .before .loop-test .taken)
 
-add-end : tie.Need-add-end Inv-loop μ-loop
-add-end c = omega (arith, c .if1 .taken, c .before .before .before .before .before .loop .inv .1)
-
-add-end-2 : tie.Need-add-end-2 Inv-loop μ-loop
-add-end-2 c = omega (arith, c .if1 .taken, c .before .before .before .before .before .loop .inv .1)
-
 returns : tie.Need-returns Inv-loop μ-loop
 returns c =
     let z = c .before .before .before .before .loop-test .taken in
@@ -143,6 +137,8 @@ round-from-spec =
     (λ c. let h = c .before .pre .small .wide in omega arith) loop-holds (λ c. search needs) (λ c. search needs) (λ c. search needs)
     (λ c. search needs) closes-requires (λ c. search needs) (λ c. omega (arith, line (c .before .before .before .before) .small)) add-us
     (λ c. omega (arith, c .before .before .before .before .loop .inv .1)) array-write-us
-    (λ c. c .before .before .before .before .loop .inv .1) add-end add-end-2 returns
+    (λ c. c .before .before .before .before .loop .inv .1)
+    (λ c. omega (arith, c .if1 .taken, c .before .before .before .before .before .loop .inv .1))
+    (λ c. omega (arith, c .if1 .taken, c .before .before .before .before .before .loop .inv .1)) returns
     (λ c. omega (arith, line (c .before .before .before .before .before) .small)) seek-requires seek-requires-2 (λ c. search needs)
     loop-again returns-2)

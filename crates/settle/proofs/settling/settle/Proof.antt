@@ -33,18 +33,12 @@ returns c = let h = c .before .before .loop .inv in settling-end (h .0) (h .1) (
 step-mirrored-requires : tie.Need-step-mirrored-requires Inv-loop μ-loop
 step-mirrored-requires c κs = let h = c .before .before .before .loop .inv in unsettled (h .0) (h .1) (c .before .if1 .left)
 
-add-steps : tie.Need-add-steps Inv-loop μ-loop
-add-steps c = omega (arith, c .before .before .before .before .before .loop-test .taken)
-
 first-loose-requires-2 : tie.Need-first-loose-requires-2 Inv-loop μ-loop
 first-loose-requires-2 c κs =
     let s = c .before .before .before in
     let b = s .before .before in
     let h = b .before .before .loop .inv in
     sought-on (h .0) (h .1) (b .if1 .left) (s .step-mirrored .ensures)
-
-loop-less : tie.Need-loop-less Inv-loop μ-loop
-loop-less c = omega (arith, c .before .before .before .before .before .before .before .loop-test .taken)
 
 loop-again : tie.Need-loop-again Inv-loop μ-loop
 loop-again c =
@@ -61,5 +55,7 @@ same-length-2 c =
 pub settle-spec : {M : Type 1} → statement M
 settle-spec =
     tie.close
-    (tie.spec Inv-loop μ-loop first-loose-requires loop-holds same-length returns step-mirrored-requires add-steps first-loose-requires-2
-    loop-less loop-again same-length-2 (λ c. settling-done (c .before .loop .inv .0) (c .loop-test .left)))
+    (tie.spec Inv-loop μ-loop first-loose-requires loop-holds same-length returns step-mirrored-requires
+    (λ c. omega (arith, c .before .before .before .before .before .loop-test .taken)) first-loose-requires-2
+    (λ c. omega (arith, c .before .before .before .before .before .before .before .loop-test .taken)) loop-again same-length-2
+    (λ c. settling-done (c .before .loop .inv .0) (c .loop-test .left)))

@@ -28,15 +28,6 @@ mul-last c =
     let h = c .before .pre .small in
     omega (arith, last-row (c .before .args .k) (h .high), h .few)
 
-add-adds-up : tie.Need-add-adds-up Inv-loop μ-loop
-add-adds-up c = omega (arith, below c, start c .pre .small .few, c .before .loop .inv .1)
-
-mul-adds-up : tie.Need-mul-adds-up Inv-loop μ-loop
-mul-adds-up c = omega (arith, below c, start c .pre .small .few, c .before .loop .inv .1)
-
-shared-slice-read-adds-up : tie.Need-shared-slice-read-adds-up Inv-loop μ-loop
-shared-slice-read-adds-up c = omega (arith, below (c .before), start (c .before) .pre .size, c .before .before .loop .inv .1)
-
 loop-again : tie.Need-loop-again Inv-loop μ-loop
 unfolding columnAddsUp
 loop-again c =
@@ -49,7 +40,9 @@ loop-again c =
 pub columns-add-up-spec : {M : Type 1} → statement M
 columns-add-up-spec =
     tie.close
-    (tie.spec Inv-loop μ-loop (λ c. search needs) mul-last (λ c. (omega arith, refl, all-start _)) add-adds-up mul-adds-up
-    shared-slice-read-adds-up (λ c. search needs) (λ c κs. column-rest (start (c .before) .pre) (c .before .loop-test .taken))
-    (λ c. search needs) (λ c. search needs) loop-again
+    (tie.spec Inv-loop μ-loop (λ c. search needs) mul-last (λ c. (omega arith, refl, all-start _))
+    (λ c. omega (arith, below c, start c .pre .small .few, c .before .loop .inv .1))
+    (λ c. omega (arith, below c, start c .pre .small .few, c .before .loop .inv .1))
+    (λ c. omega (arith, below (c .before), start (c .before) .pre .size, c .before .before .loop .inv .1)) (λ c. search needs)
+    (λ c κs. column-rest (start (c .before) .pre) (c .before .loop-test .taken)) (λ c. search needs) (λ c. search needs) loop-again
     (λ c. all-done _ (c .before .loop .inv .0, c .before .loop .inv .2) (c .loop-test .left)))

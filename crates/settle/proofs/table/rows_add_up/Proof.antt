@@ -24,19 +24,10 @@ start c = c .before .before .before
 below : (c : tie.In-loop Inv-loop μ-loop) → c .before .loop .i * start c .args .k + start c .args .k ≤ start c .args .n * start c .args .k
 below c = omega (arith, mul-le-mul-right (start c .args .k) (c .loop-test .taken))
 
-mul-b : tie.Need-mul-b Inv-loop μ-loop
-mul-b c = omega (arith, below c, start c .pre .small .few)
-
-mul-adds-up : tie.Need-mul-adds-up Inv-loop μ-loop
-mul-adds-up c = omega (arith, below c, start c .pre .small .few)
-
 shared-slice-read-adds-up : tie.Need-shared-slice-read-adds-up Inv-loop μ-loop
 shared-slice-read-adds-up c =
     let h = start (c .before) .pre in
     omega (arith, below (c .before), h .size, h .small .wide)
-
-add-adds-up : tie.Need-add-adds-up Inv-loop μ-loop
-add-adds-up c = omega (arith, below (c .before), start (c .before) .pre .small .few)
 
 loop-again : tie.Need-loop-again Inv-loop μ-loop
 unfolding rowAddsUp
@@ -49,6 +40,8 @@ loop-again c =
 pub rows-add-up-spec : {M : Type 1} → statement M
 rows-add-up-spec =
     tie.close
-    (tie.spec Inv-loop μ-loop (λ c. (omega arith, all-start _)) mul-b mul-adds-up shared-slice-read-adds-up add-adds-up (λ c. search needs)
+    (tie.spec Inv-loop μ-loop (λ c. (omega arith, all-start _)) (λ c. omega (arith, below c, start c .pre .small .few))
+    (λ c. omega (arith, below c, start c .pre .small .few)) shared-slice-read-adds-up
+    (λ c. omega (arith, below (c .before), start (c .before) .pre .small .few)) (λ c. search needs)
     (λ c κs. row-rest (start (c .before) .pre) (c .before .loop-test .taken)) (λ c. search needs) (λ c. search needs) loop-again
     (λ c. all-done _ (c .before .loop .inv) (c .loop-test .left)))

@@ -19,8 +19,8 @@ use Rattle.settle.specs.Shown.{at}
 use Rattle.settle.specs.Table.{limit, Good}
 use Rattle.settle.specs.Step.{loose, firstLoose, roundFrom, endColumn, twin, movePair, moveBy, room, least, rises, part, moveRound}
 use Rattle.settle.specs.Step.{stepMirrored, mirror, markedCell, step, stepRound, stepAmount}
-use Rattle.settle.specs.Moves.{twins, roundCells, Among, same, inRow, inColumn, OneRound}
-use Rattle.settle.specs.Inner.{Table, Apart, New, Trail, Closed, Fit}
+use Rattle.settle.specs.Moves.{twins, roundCells, Among, same, inLine, inRow, inColumn, OneRound}
+use Rattle.settle.specs.Inner.{Table, Misses, Apart, New, Trail, Closed, Fit}
 use Rattle.settle.proofs.LawLine.{pick-yes, pick-no, by-dec}
 use Rattle.settle.proofs.LawPair.{pair-other, pair-cell, pair-twin, twin-row, enough, twin-enough}
 use Rattle.settle.proofs.LawRound.{rest, fit-least}
@@ -133,43 +133,38 @@ is-same a b e = pick-yes {A = ℕ} (ℕ-discrete a b) 1 0 e
 not-same : (a b : ℕ) → a ≢ b → same a b ≡ 0
 not-same a b e = pick-no {A = ℕ} (ℕ-discrete a b) 1 0 e
 
-apart-none : (K r : ℕ) (us : List ℕ) → Apart K r us → inRow K r us ≡ 0
-unfolding inRow
-apart-none K r [] h = refl
-apart-none K r (u ∷ us) h = omega (arith, not-same (u / K) r (h .0), apart-none K r us (h .1))
-
-new-none : (K c : ℕ) (us : List ℕ) → New K c us → inColumn K c us ≡ 0
-unfolding inColumn
-new-none K c [] h = refl
-new-none K c (u ∷ us) h = omega (arith, not-same (u % K) c (h .0), new-none K c us (h .1))
+misses-none : (f : ℕ → ℕ) (r : ℕ) (us : List ℕ) → Misses f r us → inLine f r us ≡ 0
+unfolding inLine
+misses-none f r [] h = refl
+misses-none f r (u ∷ us) h = omega (arith, not-same (f u) r (h .0), misses-none f r us (h .1))
 
 module _ (W K : ℕ) (t : List ℕ) where
   -- at most one of the cells is in a row, and in a column
   row-most : (r x : ℕ) (us : List ℕ) → Trail W K t x us → inRow K r us ≤ 1
-  unfolding inRow
+  unfolding inLine
   row-most r x [] h = omega arith
   row-most r x (u ∷ us) h =
       by-dec (ℕ-discrete (u / K) r)
-      (λ e. let a : Apart K r us = rw e at (h .1) in omega (arith, is-same (u / K) r e, apart-none K r us a))
+      (λ e. let a : Apart K r us = rw e at (h .1) in omega (arith, is-same (u / K) r e, misses-none (λ v. v / K) r us a))
       (λ e. omega (arith, not-same (u / K) r e, row-most r (u % K) us (h .3)))
 
   col-most : (c x : ℕ) (us : List ℕ) → Trail W K t x us → inColumn K c us ≤ 1
-  unfolding inColumn
+  unfolding inLine
   col-most c x [] h = omega arith
   col-most c x (u ∷ us) h =
       by-dec (ℕ-discrete (u % K) c)
-      (λ e. let a : New K c us = rw e at (h .2) in omega (arith, is-same (u % K) c e, new-none K c us a))
+      (λ e. let a : New K c us = rw e at (h .2) in omega (arith, is-same (u % K) c e, misses-none (λ v. v % K) c us a))
       (λ e. omega (arith, not-same (u % K) c e, col-most c (u % K) us (h .3)))
 
   -- the twins have the cells' rows, and their columns but for the first and the last
   twins-row : (r x : ℕ) (us : List ℕ) → Trail W K t x us → inRow K r (twins K x us) ≡ inRow K r us
-  unfolding inRow twins
+  unfolding inLine twins
   twins-row r x [] h = refl
   twins-row r x (u ∷ us) h =
       omega (arith, ap (λ (i : ℕ). same i r) (digits-div (u / K) (h .0 .column)), twins-row r (u % K) us (h .3))
 
   twins-col : (c x : ℕ) (us : List ℕ) → Trail W K t x us → inColumn K c (twins K x us) + same (endColumn K x us) c ≡ inColumn K c us + same x c
-  unfolding inColumn twins endColumn
+  unfolding inLine twins endColumn
   twins-col c x [] h = refl
   twins-col c x (u ∷ us) h =
       omega (arith, ap (λ (i : ℕ). same i c) (digits-mod (u / K) (h .0 .column)), twins-col c (u % K) us (h .3))
@@ -212,15 +207,10 @@ among-either : (v : ℕ) (us ws : List ℕ) → Among v (us ++ ws) → Among v u
 among-either v [] ws h = inr h
 among-either v (u ∷ us) ws h = ⊎-elim (λ e. inl (inl e)) (λ g. ⊎-elim (λ a. inl (inr a)) inr (among-either v us ws g)) h
 
-in-row-both : (K r : ℕ) (us ws : List ℕ) → inRow K r (us ++ ws) ≡ inRow K r us + inRow K r ws
-unfolding inRow
-in-row-both K r [] ws = omega arith
-in-row-both K r (u ∷ us) ws = omega (arith, in-row-both K r us ws)
-
-in-column-both : (K c : ℕ) (us ws : List ℕ) → inColumn K c (us ++ ws) ≡ inColumn K c us + inColumn K c ws
-unfolding inColumn
-in-column-both K c [] ws = omega arith
-in-column-both K c (u ∷ us) ws = omega (arith, in-column-both K c us ws)
+in-line-both : (f : ℕ → ℕ) (r : ℕ) (us ws : List ℕ) → inLine f r (us ++ ws) ≡ inLine f r us + inLine f r ws
+unfolding inLine
+in-line-both f r [] ws = omega arith
+in-line-both f r (u ∷ us) ws = omega (arith, in-line-both f r us ws)
 
 -- up or down by d
 Moved : (x d y : ℕ) → Type 0
@@ -332,14 +322,14 @@ module _ {g : Grid} {z : List ℕ} (h : Table g z) (l : firstLoose (g .unit) z <
   round-rows : (r : ℕ) → (inRow (g .columns) r (roundCells (g .columns) us) ≡ 0) ⊎ (inRow (g .columns) r (roundCells (g .columns) us) ≡ 2)
   round-rows r =
       let K = g .columns in
-      rw (in-row-both K r us (twins K x us))
+      rw (in-line-both (λ v. v / K) r us (twins K x us))
       (two (inRow K r us) _ (row-most (g .unit) K z r x us (closed .trail)) (twins-row (g .unit) K z r x us (closed .trail)))
 
   round-columns : (c : ℕ) → (inColumn (g .columns) c (roundCells (g .columns) us) ≡ 0) ⊎ (inColumn (g .columns) c (roundCells (g .columns) us) ≡ 2)
   round-columns c =
       let K = g .columns in
       let e = ap (λ (i : ℕ). same i c) (end-end K x 0 us (closed .some)) in
-      rw (in-column-both K c us (twins K x us))
+      rw (in-line-both (λ v. v % K) c us (twins K x us))
       (two (inColumn K c us) _ (col-most (g .unit) K z c x us (closed .trail)) (omega (arith, twins-col (g .unit) K z c x us (closed .trail))))
 
   amount-pos : 0 < amount

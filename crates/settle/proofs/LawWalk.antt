@@ -13,7 +13,7 @@ use lib.ListN.{length, getD, set, take, drop}
 use lib.Seq.{take-all}
 use Rattle.settle.specs.Shown.{at, Whole}
 use Rattle.settle.specs.Step.{pick, whole?, seek, closes, walk, endColumn}
-use Rattle.settle.specs.Inner.{mostCells, Small, Even, Apart, New, Hop, Trail, Closed, Line, Passed, Start}
+use Rattle.settle.specs.Inner.{mostCells, Small, Even, Misses, Apart, New, Hop, Trail, Closed, Line, Passed, Start}
 use Rattle.settle.proofs.LawLine.{pick-yes, pick-no, by-dec, finds}
 
 -- the newest row of the path is not r
@@ -70,21 +70,16 @@ module _ (W K : ℕ) (t : List ℕ) (r : ℕ) where
       (λ w. absurd (omega (arith, closes-here u us w)))
 
 -- parts of a path
-apart-take : (K r j : ℕ) (us : List ℕ) → Apart K r us → Apart K r (take j us)
-apart-take K r zero us h = tt
-apart-take K r (suc j) [] h = tt
-apart-take K r (suc j) (u ∷ us) h = (h .0, apart-take K r j us (h .1))
-
-new-take : (K c j : ℕ) (us : List ℕ) → New K c us → New K c (take j us)
-new-take K c zero us h = tt
-new-take K c (suc j) [] h = tt
-new-take K c (suc j) (u ∷ us) h = (h .0, new-take K c j us (h .1))
+misses-take : (f : ℕ → ℕ) (r j : ℕ) (us : List ℕ) → Misses f r us → Misses f r (take j us)
+misses-take f r zero us h = tt
+misses-take f r (suc j) [] h = tt
+misses-take f r (suc j) (u ∷ us) h = (h .0, misses-take f r j us (h .1))
 
 trail-take : (W K : ℕ) (t : List ℕ) (x j : ℕ) (us : List ℕ) → Trail W K t x us → Trail W K t x (take j us)
 trail-take W K t x zero us h = tt
 trail-take W K t x (suc j) [] h = tt
 trail-take W K t x (suc j) (u ∷ us) h =
-    (h .0, apart-take K (u / K) j us (h .1), new-take K (u % K) j us (h .2), trail-take W K t (u % K) j us (h .3))
+    (h .0, misses-take (λ v. v / K) (u / K) j us (h .1), misses-take (λ v. v % K) (u % K) j us (h .2), trail-take W K t (u % K) j us (h .3))
 
 pub end-take : (K x j : ℕ) (us : List ℕ) → j < length us → endColumn K x (take (suc j) us) ≡ getD us j 0 % K
 unfolding endColumn
@@ -200,7 +195,7 @@ module _ {W K n : ℕ} {t : List ℕ} (hK : 0 < K) (ev : Even W K n t) where
         trail = (
           rw e (hop-of r (h .row) (h .col) (mod-lt (getD path m 0) hK) other (h .loose) (closes-loose W K t r path l)),
           rw q (far W K t r c m path (omega arith) (h .head) (h .trail)),
-          rw q' (new-take K c (suc m) path (h .new)),
+          rw q' (misses-take (λ v. v % K) c (suc m) path (h .new)),
           rw q' (trail-take W K t c (suc m) path (h .trail)),
         );
       }

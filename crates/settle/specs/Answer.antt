@@ -34,7 +34,8 @@ AnswersStep g times t lent lent' r = Answers g times t (after (step g) times t) 
 abbrev pub AnswersShow : (g : Grid) (t lent lent' : List ℕ) (r : Settled) → Type 0
 AnswersShow g t lent lent' r = Answers g (length t) t (shownTable g t) lent lent' r
 
--- what a caller has of `show` for a good table and enough room: the lent cells begin with a table that may be shown, the others are as they were
+-- what a caller has of `show` for a good table and enough room: the lent cells begin with a table that may be shown, and the others are
+-- as they were
 pub record Showing (g : Grid) (t lent lent' : List ℕ) (r : Settled) : Type 0 where
   pub is : r ≡ Done (changes (step g) (g .unit) (length t) t)
   pub cells : lent' ≡ shownTable g t ++ drop (area g) lent

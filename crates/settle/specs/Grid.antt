@@ -1,4 +1,5 @@
--- The numbers by which a table is read. A table is a list of cells, row after row: column 0 has the rows' sums, the last row the columns' sums.
+-- The numbers by which a table is read. A table is a list of cells, row after row: column 0 has the rows' sums, the last row the columns'
+-- sums.
 use Prim.Native.Nat.{ℕ, _*_}
 
 pub record Grid : Type 0 where

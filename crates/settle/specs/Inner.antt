@@ -97,13 +97,15 @@ pub record Hop (W K : ℕ) (t : List ℕ) (x u : ℕ) : Type 0 where
   pub twin-loose : at t (twin K x u) % W ≢ 0
 
 -- r is the row of none of these cells; c the column of none
+abbrev pub Misses : (f : ℕ → ℕ) (r : ℕ) (us : List ℕ) → Type 0
+Misses f r [] = Unit {0}
+Misses f r (v ∷ vs) = (f v ≢ r) × Misses f r vs
+
 abbrev pub Apart : (K r : ℕ) (us : List ℕ) → Type 0
-Apart K r [] = Unit {0}
-Apart K r (v ∷ vs) = (v / K ≢ r) × Apart K r vs
+Apart K r us = Misses (λ v. v / K) r us
 
 abbrev pub New : (K c : ℕ) (us : List ℕ) → Type 0
-New K c [] = Unit {0}
-New K c (v ∷ vs) = (v % K ≢ c) × New K c vs
+New K c us = Misses (λ v. v % K) c us
 
 -- a path that is left by column x: its cells and their twins are loose, its rows are apart, its columns are apart
 abbrev pub Trail : (W K : ℕ) (t : List ℕ) (x : ℕ) (us : List ℕ) → Type 0

@@ -31,13 +31,15 @@ Among v (u ∷ us) = (u ≡ v) ⊎ Among v us
 abbrev pub same : (a b : ℕ) → ℕ
 same a b = pick (ℕ-discrete a b) 1 0
 
-unfoldable pub inRow : (K r : ℕ) (us : List ℕ) → ℕ
-inRow K r [] = 0
-inRow K r (u ∷ us) = same (u / K) r + inRow K r us
+unfoldable pub inLine : (f : ℕ → ℕ) (r : ℕ) (us : List ℕ) → ℕ
+inLine f r [] = 0
+inLine f r (u ∷ us) = same (f u) r + inLine f r us
 
-unfoldable pub inColumn : (K c : ℕ) (us : List ℕ) → ℕ
-inColumn K c [] = 0
-inColumn K c (u ∷ us) = same (u % K) c + inColumn K c us
+abbrev pub inRow : (K r : ℕ) (us : List ℕ) → ℕ
+inRow K r us = inLine (λ u. u / K) r us
+
+abbrev pub inColumn : (K c : ℕ) (us : List ℕ) → ℕ
+inColumn K c us = inLine (λ u. u % K) c us
 
 -- from t to s the cells of one closed round moved, each up or down by d, and no other
 pub record OneRound (g : Grid) (t s cells : List ℕ) (d : ℕ) : Type 0 where

@@ -98,8 +98,8 @@ least W K up t x [] = W
 least W K up t x (u ∷ us) =
     min (min (room up W (at t u)) (room (not up) W (at t (twin K x u)))) (least W K up t (u % K) us)
 
--- whether the cells by which rows were entered go up, where the marked cell is to go up (`lift`) or down: as it has to, if it is one of them; if
--- not, the other way, so that it goes as it has to where it is a twin
+-- whether the cells by which rows were entered go up, where the marked cell is to go up (`lift`) or down: as it has to, if it is one of
+-- them; if not, the other way, so that it goes as it has to where it is a twin
 unfoldable pub rises : (lift : Bool) (mark : ℕ) (us : List ℕ) → Bool
 rises lift mark [] = not lift
 rises lift mark (u ∷ us) = pick (ℕ-discrete u mark) lift (rises lift mark us)

@@ -1,5 +1,6 @@
 // Rounds a table of sums to whole units by closed rounds: every cell to one of the whole numbers around it, every sum right.
 // A table is lent as its cells, row after row: column 0 has the rows' sums, the last row the columns' sums.
+// (In the private functions w is the unit, k the number of columns, n that of rows, t the table's cells.)
 ghost use Rattle.settle.specs.Answer.{AnswersShow, AnswersStep};
 ghost use Rattle.settle.specs.Grid.{grid};
 ghost use Rattle.settle.specs.Inner.{Lent, Steps};
@@ -72,8 +73,8 @@ pub fn step(
     }
 }
 
-// The shown table of `exact`, in whole units, written to the front of `shown`: as many steps as there are cells, which always is enough, then
-// the division. The answers are those of `step`, and `marked` is what it is there; a table of which all cells are whole is only divided.
+// The shown table of `exact`, in whole units, written to the front of `shown`: as many steps as there are cells, which is always enough,
+// then the division. The answers are those of `step`, and `marked` is what it is there; a table of which all cells are whole is only divided.
 pub fn show(
     unit: u64,
     columns: usize,

@@ -4,7 +4,8 @@ ghost use Rattle.settle.specs.Inner as inner;
 ghost use Rattle.settle.specs.Step as spec;
 ghost use mathlib.Core.Path.{_≡_};
 
-// Whether the round's cells go up, where the marked cell is to go up (`lift`) or down: as it has to if it is among them, else the other way.
+// Whether the round's cells go up, where the marked cell is to go up (`lift`) or down: as it has to if it is one of them, else the other
+// way, so that it goes as it has to where it is a twin.
 fn rises(lift: bool, mark: usize, us: &[usize]) -> bool
     ensures { λ a. ⌜ a ≡ spec.rises lift mark (now (us .entry)) ⌝ }
 {

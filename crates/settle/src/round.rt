@@ -71,5 +71,6 @@ pub(crate) fn round_from(t: &[u64], w: u64, k: usize, n: usize, i: usize) -> Rou
         r = e;
         c = d;
     }
+    // Not reached: each row that is entered has a column that is new to the path.
     Round { us, at: 0, end: 1 }
 }

@@ -31,6 +31,7 @@ fn adds_up(t: &[u64], x: u64, b: usize, s: usize, m: usize) -> bool
     left == 0
 }
 
+// Whether no cell is above the limit; whether column 0 is the sum of the others in every row; whether the last row is the sum of those above.
 fn cells_fit(t: &[u64]) -> bool
     ensures { λ r. ⌜ r ≡ all (length (now (t .entry))) (spec.cellFits (now (t .entry))) ⌝ }
 {
@@ -71,7 +72,7 @@ fn columns_add_up(t: &[u64], k: usize, n: usize) -> bool
     ok
 }
 
-// (Which column m is marked makes no difference.)
+// Whether the numbers and the count of cells are a table's. (Which column m is marked makes no difference.)
 fn is_sized(w: u64, k: usize, n: usize, cells: usize) -> bool
     ensures { λ r. ⌜ ((m : ℕ) → r ≡ spec.isSized (grid w k n m) cells) ⌝ }
 {

@@ -1,6 +1,6 @@
 -- The cells of the path move one way and their twins the other, all by the same amount; rows are apart, so no later pair moves them again. Each
 -- row of a path has one cell and one twin, and each column as many twins as cells. The way is chosen so that the marked total goes up.
-use mathlib.Core.Path.{_≡_, refl, sym, ap, _∙_}
+use mathlib.Core.Path.{_≡_, refl, sym, ap, subst, _∙_}
 use mathlib.Core.Logic.{_≢_, _⊎_, inl, inr, ⊎-elim}
 use mathlib.Core.List.{List, [], _∷_, _++_}
 use mathlib.Core.Bool.{Bool, true, false, not}
@@ -13,7 +13,6 @@ use lib.Arith.{digits-div, digits-mod}
 use lib.Dec.{eqb}
 use lib.ListN.{length, set, List·getD-eq-default}
 use lib.Seq.{getD-set-other}
-use Rattle.search.proofs.LawTest.{clash}
 use Rattle.settle.specs.Grid.{Grid, area}
 use Rattle.settle.specs.Shown.{at}
 use Rattle.settle.specs.Table.{limit, Good}
@@ -212,47 +211,37 @@ unfolding inLine
 in-line-both f r [] ws = omega arith
 in-line-both f r (u ∷ us) ws = omega (arith, in-line-both f r us ws)
 
--- up or down by d
+-- y is x moved by d, up or down
+Went : (up : Bool) (x d y : ℕ) → Type 0
+Went true x d y = y ≡ x + d
+Went false x d y = y + d ≡ x
+
+went-path : (up : Bool) (x d y : ℕ) → y + part (not up) d ≡ x + part up d → Went up x d y
+unfolding Went
+went-path true x d y e = omega arith
+went-path false x d y e = omega arith
+
+went-twin : (up : Bool) (x d y : ℕ) → y + part up d ≡ x + part (not up) d → Went (not up) x d y
+unfolding Went
+went-twin true x d y e = omega arith
+went-twin false x d y e = omega arith
+
 Moved : (x d y : ℕ) → Type 0
 Moved x d y = (y ≡ x + d) ⊎ (y + d ≡ x)
 
-by-direction : (up : Bool) (d x y : ℕ) → y + part (not up) d ≡ x + part up d → Moved x d y
-unfolding Moved
-by-direction true d x y e = inl (omega arith)
-by-direction false d x y e = inr (omega arith)
-
-by-twin : (up : Bool) (d x y : ℕ) → y + part up d ≡ x + part (not up) d → Moved x d y
-unfolding Moved
-by-twin true d x y e = inr (omega arith)
-by-twin false d x y e = inl (omega arith)
+went-moved : (up : Bool) (x d y : ℕ) → Went up x d y → Moved x d y
+unfolding Moved Went
+went-moved true x d y e = inl e
+went-moved false x d y e = inr e
 
 -- in the mirror up is down
 mirror-moved : (x y d : ℕ) → x ≤ limit → y ≤ limit → Moved (limit - x) d y → Moved x d (limit - y)
 unfolding Moved
 mirror-moved x y d a b h = ⊎-elim (λ e. inr (omega arith)) (λ e. inl (omega arith)) h
 
--- the marked cell goes the way it has to
-Went : (up : Bool) (x d y : ℕ) → Type 0
-Went up x d y = y + part (not up) d ≡ x + part up d
-
-went-path : (m up : Bool) (x d y : ℕ) → up ≡ m → y + part (not up) d ≡ x + part up d → Went m x d y
-unfolding Went
-went-path m up x d y e p = rw e at p
-
-went-twin : (m up : Bool) (x d y : ℕ) → up ≡ not m → y + part up d ≡ x + part (not up) d → Went m x d y
-unfolding Went
-went-twin true up x d y e p = rw e at p
-went-twin false up x d y e p = rw e at p
-
-went-up : (m : Bool) (x d y : ℕ) → m ≡ true → Went m x d y → y ≡ x + d
-unfolding Went
-went-up true x d y e p = omega arith
-went-up false x d y e p = clash (cc)
-
-went-down : (m : Bool) (x d y : ℕ) → m ≡ false → Went m x d y → y + d ≡ x
-unfolding Went
-went-down true x d y e p = clash (cc)
-went-down false x d y e p = omega arith
+not-not : (up lift : Bool) → up ≡ not lift → not up ≡ lift
+not-not up true e = ap not e
+not-not up false e = ap not e
 
 -- the round of a mirrored table that is not whole
 module _ {g : Grid} {z : List ℕ} (h : Table g z) (l : firstLoose (g .unit) z < length z) where
@@ -277,21 +266,23 @@ module _ {g : Grid} {z : List ℕ} (h : Table g z) (l : firstLoose (g .unit) z <
   fit : Fit (g .unit) (g .columns) (part up amount) (part (not up) amount) z x us
   fit = fit-least (g .unit) (g .columns) up z x us amount (closed .trail) (le-refl amount)
 
-  path-moved : (v : ℕ) → Among v us → at (stepMirrored g z) v + part (not up) amount ≡ at z v + part up amount
+  path-moved : (v : ℕ) → Among v us → Went up (at z v) amount (at (stepMirrored g z) v)
   unfolding moveRound
   path-moved v a =
-      rw (mirrored-moves h l) (move-among (part up amount) (part (not up) amount) (h .shape .unit) (h .shape .wide) v x us z fit a)
+      let m = move-among (part up amount) (part (not up) amount) (h .shape .unit) (h .shape .wide) v x us z fit a in
+      went-path up _ _ _ (rw (mirrored-moves h l) m)
 
-  twins-moved : (v : ℕ) → Among v (twins (g .columns) x us) → at (stepMirrored g z) v + part up amount ≡ at z v + part (not up) amount
+  twins-moved : (v : ℕ) → Among v (twins (g .columns) x us) → Went (not up) (at z v) amount (at (stepMirrored g z) v)
   unfolding moveRound
   twins-moved v a =
-      rw (mirrored-moves h l) (move-twinned (part up amount) (part (not up) amount) (h .shape .unit) (h .shape .wide) v x us z fit a)
+      let m = move-twinned (part up amount) (part (not up) amount) (h .shape .unit) (h .shape .wide) v x us z fit a in
+      went-twin up _ _ _ (rw (mirrored-moves h l) m)
 
   mirrored-moved : (v : ℕ) → Among v (roundCells (g .columns) us) → Moved (at z v) amount (at (stepMirrored g z) v)
   mirrored-moved v a =
       ⊎-elim
-      (λ b. by-direction up amount _ _ (path-moved v b))
-      (λ b. by-twin up amount _ _ (twins-moved v b))
+      (λ b. went-moved up _ _ _ (path-moved v b))
+      (λ b. went-moved (not up) _ _ _ (twins-moved v b))
       (among-either v us (twins (g .columns) x us) a)
 
   mirrored-else : (v : ℕ) → (Among v (roundCells (g .columns) us) → ⊥) → at (stepMirrored g z) v ≡ at z v
@@ -303,12 +294,13 @@ module _ {g : Grid} {z : List ℕ} (h : Table g z) (l : firstLoose (g .unit) z <
 
   mark-moved : Among mark (roundCells (g .columns) us) → Went (eqb (g .marked) 0) (at z mark) amount (at (stepMirrored g z) mark)
   mark-moved a =
-      let m = eqb (g .marked) 0 in
+      let lift = eqb (g .marked) 0 in
       ⊎-elim
-      (λ b. went-path m up _ _ _ (rises-among m mark us b) (path-moved mark b))
+      (λ b. subst (λ (m : Bool). Went m (at z mark) amount (at (stepMirrored g z) mark)) (rises-among lift mark us b) (path-moved mark b))
       (λ b.
       let apart = not-both (part up amount) (part (not up) amount) (h .shape .unit) (h .shape .wide) mark x us z fit b in
-      went-twin m up _ _ _ (rises-not m mark us apart) (twins-moved mark b))
+      let e = not-not up lift (rises-not lift mark us apart) in
+      subst (λ (m : Bool). Went m (at z mark) amount (at (stepMirrored g z) mark)) e (twins-moved mark b))
       (among-either mark us (twins (g .columns) x us) a)
 
   -- what is said of the round itself
@@ -388,7 +380,7 @@ module _ {g : Grid} {t : List ℕ} (h : Good g t) (some : loose (g .unit) t ≢ 
   -- where the round holds the marked total, that cell goes up
   pub step-lifts : g .marked < g .columns → let v = (g .rows - 1) * g .columns + g .marked in
       Among v (roundCells (g .columns) (stepRound g t)) → at (step g t) v ≡ at t v + stepAmount g t
-  unfolding step
+  unfolding step Went
   step-lifts k a =
       let K = g .columns in
       let n = g .rows in
@@ -399,20 +391,18 @@ module _ {g : Grid} {t : List ℕ} (h : Good g t) (some : loose (g .unit) t ≢ 
       let ys = mirrored-table y in
       let s = stepMirrored g z in
       let e = marked-at K n (g .marked) k in
-      let w = mark-moved y l (rw e a) in
-      let es = ap (at s) e in
-      let ez = ap (at z) e in
+      let w : Went (eqb (g .marked) 0) (at z v) d (at s v) = subst (λ (i : ℕ). Went (eqb (g .marked) 0) (at z i) d (at s i)) e (mark-moved y l (rw e a)) in
       let i : v < area g = inside v a .0 in
       let p = at-mirror K n s v (omega (arith, ys .even .size)) in
       let q = at-mirror K n t v (omega (arith, h .size)) in
       by-dec (ℕ-discrete (g .marked) 0)
       (λ m.
-      let w' = went-up _ _ _ _ (eq-eqb (g .marked) 0 m) w in
+      let w' : Went true (at z v) d (at s v) = subst (λ (b : Bool). Went b (at z v) d (at s v)) (eq-eqb (g .marked) 0 m) w in
       let p' : at (mirror K n s) v ≡ at s v = p ∙ plus-last K n hK (g .marked) (at s v) (h .shape .high) m in
       let q' : at z v ≡ at t v = q ∙ plus-last K n hK (g .marked) (at t v) (h .shape .high) m in
       omega arith)
       (λ m.
-      let w' = went-down _ _ _ _ (ne-eqb (g .marked) 0 m) w in
+      let w' : Went false (at z v) d (at s v) = subst (λ (b : Bool). Went b (at z v) d (at s v)) (ne-eqb (g .marked) 0 m) w in
       let p' = p ∙ minus-last K n hK (g .marked) (at s v) (h .shape .high) k m in
       let q' = q ∙ minus-last K n hK (g .marked) (at t v) (h .shape .high) k m in
       omega (arith, good-bounded h .most v, ys .most v))

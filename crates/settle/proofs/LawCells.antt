@@ -20,7 +20,8 @@ pub record Written (f : ℕ → ℕ → ℕ) (i : ℕ) (t₀ t : List ℕ) : Typ
 pub written-none : {f : ℕ → ℕ → ℕ} {t : List ℕ} → Written f 0 t t
 written-none = record { size = refl; done = λ j l. absurd (omega arith); rest = λ j l. refl }
 
-pub written-more : {f : ℕ → ℕ → ℕ} {i : ℕ} {t₀ t : List ℕ} {y : ℕ} → Written f i t₀ t → i < length t → y ≡ f i (at t i) → Written f (i + 1) t₀ (set t i y)
+pub written-more : {f : ℕ → ℕ → ℕ} {i : ℕ} {t₀ t : List ℕ} {y : ℕ} → Written f i t₀ t → i < length t → y ≡ f i (at t i) →
+    Written f (i + 1) t₀ (set t i y)
 written-more {f} {i} {t₀} {t} {y} h l e =
     record {
       size = length-set t i y ∙ h .size;

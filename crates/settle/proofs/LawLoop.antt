@@ -1,4 +1,5 @@
--- What a loop over a list asks of the functions that recurse on it.
+-- A loop over a list stands before what is left of it, `drop i us`: one turn on, a function that recurses on the list has gone one cell on, and
+-- past the end it has its value for no cells.
 use mathlib.Core.Path.{_≡_}
 use mathlib.Core.Logic.{_≢_}
 use mathlib.Core.List.{List, [], _∷_}
@@ -21,7 +22,8 @@ module _ (W K : ℕ) (t : List ℕ) (r : ℕ) (us : List ℕ) (i : ℕ) where
   pub closes-stop : i < length us → at t (r * K + getD us i 0 % K) % W ≢ 0 → closes W K t r (drop i us) ≡ 0
   closes-stop l h = rw (drop-next us i l) (closes-here W K t r (getD us i 0) (drop (i + 1) us) h)
 
-  pub closes-on : i < length us → Whole W (at t (r * K + getD us i 0 % K)) → closes W K t r (drop i us) ≡ suc (closes W K t r (drop (i + 1) us))
+  pub closes-on : i < length us → Whole W (at t (r * K + getD us i 0 % K)) →
+      closes W K t r (drop i us) ≡ suc (closes W K t r (drop (i + 1) us))
   closes-on l h = rw (drop-next us i l) (closes-whole W K t r (getD us i 0) (drop (i + 1) us) h)
 
   pub closes-out : length us ≤ i → closes W K t r (drop i us) ≡ 0
@@ -52,7 +54,8 @@ module _ (W K : ℕ) (up : Bool) (t : List ℕ) (x : ℕ) (us : List ℕ) (i : �
   least-out l = rw (drop-of-length-le us l)
 
 module _ (K p m : ℕ) (x : ℕ) (us : List ℕ) (i : ℕ) (t : List ℕ) where
-  pub move-on : i < length us → moveBy K p m x (drop i us) t ≡ moveBy K p m (getD us i 0 % K) (drop (i + 1) us) (movePair K p m x (getD us i 0) t)
+  pub move-on : i < length us →
+      moveBy K p m x (drop i us) t ≡ moveBy K p m (getD us i 0 % K) (drop (i + 1) us) (movePair K p m x (getD us i 0) t)
   unfolding moveBy
   move-on l = rw (drop-next us i l)
 
@@ -66,6 +69,7 @@ unfolding least
 least-most W K up t x [] = omega arith
 least-most W K up t x (u ∷ us) = omega (arith, least-most W K up t (u % K) us)
 
--- a movePair of the loop that finds the least
-pub least-step : (best rest all ra rb : ℕ) {b2 b1 a b whole : ℕ} → b2 ≡ min best b1 → b1 ≡ min a b → a ≡ ra → b ≡ rb → whole ≡ min (min ra rb) rest → min best whole ≡ all → min b2 rest ≡ all
+-- a turn of the loop that finds the least
+pub least-step : (best rest all ra rb : ℕ) {b2 b1 a b whole : ℕ} → b2 ≡ min best b1 → b1 ≡ min a b → a ≡ ra → b ≡ rb →
+    whole ≡ min (min ra rb) rest → min best whole ≡ all → min b2 rest ≡ all
 least-step best rest all ra rb p q r s e f = omega arith

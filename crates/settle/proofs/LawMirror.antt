@@ -29,7 +29,8 @@ unfolding sum
 sum-same t z b s zero h = refl
 sum-same t z b s (suc m) h = omega (arith, sum-same t z b s m (λ k l. h k (omega arith)), h m (omega arith))
 
-sum-mirror : (t z : List ℕ) (b s m : ℕ) → ((k : ℕ) → k < m → at z (b + k * s) + at t (b + k * s) ≡ limit) → sum z b s m + sum t b s m ≡ m * limit
+sum-mirror : (t z : List ℕ) (b s m : ℕ) → ((k : ℕ) → k < m → at z (b + k * s) + at t (b + k * s) ≡ limit) →
+    sum z b s m + sum t b s m ≡ m * limit
 unfolding sum
 sum-mirror t z b s zero h = omega arith
 sum-mirror t z b s (suc m) h = omega (arith, sum-mirror t z b s m (λ k l. h k (omega arith)), h m (omega arith))
@@ -143,6 +144,9 @@ signed-mirror {K} {n} {t} h =
           omega (arith, h .most ((n - 1) * K + c));
     }
 
+next-place : (b k : ℕ) → b + 1 + k * 1 ≡ b + (k + 1)
+next-place b k = omega arith
+
 -- the sums of the lines of a table that is even by its signs
 record Totals (K n : ℕ) (z : List ℕ) : Type 0 where
   row : (i : ℕ) → i + 1 < n → sum z (i * K) 1 K ≡ limit
@@ -166,15 +170,15 @@ module _ {g : Grid} {t z : List ℕ} (shape : Shape g) (h : Signed (g .columns) 
   row-above : (i : ℕ) → i + 1 < n → sum z (i * K) 1 K + at t (i * K) ≡ limit + sum t (i * K + 1) 1 (K - 1)
   row-above i l =
       let e : K ≡ suc (K - 1) = omega (arith, hK) in
-      let a : sum z (i * K) 1 K ≡ at z (i * K) + sum z (i * K + 1) 1 (K - 1) = ap (sum z (i * K) 1) e ∙ sum-head z (i * K) 1 (K - 1) in
-      let b = sum-same t z (i * K + 1) 1 (K - 1) (λ k m. let g : i * K + 1 + k * 1 ≡ i * K + (k + 1) = omega arith in rw g (h .plus-above i (k + 1) l (omega arith) (omega arith))) in
+      let a = ap (sum z (i * K) 1) e ∙ sum-head z (i * K) 1 (K - 1) in
+      let b = sum-same t z (i * K + 1) 1 (K - 1) (λ k m. rw (next-place (i * K) k) (h .plus-above i (k + 1) l (omega arith) (omega arith))) in
       omega (arith, h .minus-above i l)
 
   row-last : sum z ((n - 1) * K) 1 K + sum t ((n - 1) * K + 1) 1 (K - 1) ≡ at t ((n - 1) * K) + (K - 1) * limit
   row-last =
       let e : K ≡ suc (K - 1) = omega (arith, hK) in
-      let a : sum z ((n - 1) * K) 1 K ≡ at z ((n - 1) * K) + sum z ((n - 1) * K + 1) 1 (K - 1) = ap (sum z ((n - 1) * K) 1) e ∙ sum-head z ((n - 1) * K) 1 (K - 1) in
-      let b = sum-mirror t z ((n - 1) * K + 1) 1 (K - 1) (λ k m. let g : (n - 1) * K + 1 + k * 1 ≡ (n - 1) * K + (k + 1) = omega arith in rw g (h .minus-last (k + 1) (omega arith) (omega arith))) in
+      let a = ap (sum z ((n - 1) * K) 1) e ∙ sum-head z ((n - 1) * K) 1 (K - 1) in
+      let b = sum-mirror t z ((n - 1) * K + 1) 1 (K - 1) (λ k m. rw (next-place ((n - 1) * K) k) (h .minus-last (k + 1) (omega arith) (omega arith))) in
       omega (arith, h .plus-last)
 
   col-zero : sum z 0 K n + sum t 0 K (n - 1) ≡ (n - 1) * limit + at t ((n - 1) * K + 0)

@@ -48,7 +48,7 @@ within-most {W} {M} {x} h w l a =
     let r = mul-le-mul-right W q in
     omega (arith, a .high))
 
--- a cell that is moveRound by all of its room is whole
+-- a cell that is moved by all of its room is whole
 pub hit-up : (W x : ℕ) → 0 < W → Whole W (x + (W - x % W))
 hit-up W x h =
     let e : x + (W - x % W) ≡ (x / W + 1) * W = omega (arith, div-add-mod' x W, mod-lt x h) in

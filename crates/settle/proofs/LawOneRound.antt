@@ -162,7 +162,8 @@ module _ (W K : ℕ) (t : List ℕ) where
   twins-row r x (u ∷ us) h =
       omega (arith, ap (λ (i : ℕ). same i r) (digits-div (u / K) (h .0 .column)), twins-row r (u % K) us (h .3))
 
-  twins-col : (c x : ℕ) (us : List ℕ) → Trail W K t x us → inColumn K c (twins K x us) + same (endColumn K x us) c ≡ inColumn K c us + same x c
+  twins-col : (c x : ℕ) (us : List ℕ) → Trail W K t x us →
+      inColumn K c (twins K x us) + same (endColumn K x us) c ≡ inColumn K c us + same x c
   unfolding inLine twins endColumn
   twins-col c x [] h = refl
   twins-col c x (u ∷ us) h =
@@ -317,7 +318,8 @@ module _ {g : Grid} {z : List ℕ} (h : Table g z) (l : firstLoose (g .unit) z <
       rw (in-line-both (λ v. v / K) r us (twins K x us))
       (two (inRow K r us) _ (row-most (g .unit) K z r x us (closed .trail)) (twins-row (g .unit) K z r x us (closed .trail)))
 
-  round-columns : (c : ℕ) → (inColumn (g .columns) c (roundCells (g .columns) us) ≡ 0) ⊎ (inColumn (g .columns) c (roundCells (g .columns) us) ≡ 2)
+  round-columns : (c : ℕ) →
+      (inColumn (g .columns) c (roundCells (g .columns) us) ≡ 0) ⊎ (inColumn (g .columns) c (roundCells (g .columns) us) ≡ 2)
   round-columns c =
       let K = g .columns in
       let e = ap (λ (i : ℕ). same i c) (end-end K x 0 us (closed .some)) in

@@ -85,7 +85,7 @@ pair-count {W} {K} {p} {m} {t} {x} {u} hW hK h =
     omega arith
 
 module _ {W K : ℕ} (p m : ℕ) (hW : 0 < W) (hK : 0 < K) where
-  -- the rest of a round after its first movePair
+  -- the rest of a round after its first pair is moved
   pub rest : (x u : ℕ) (us : List ℕ) (t : List ℕ) → Fit W K p m t x (u ∷ us) → Fit W K p m (movePair K p m x u t) (u % K) us
   rest x u us t h =
       fit-carry W K p m t (movePair K p m x u t) (u / K) (pair-length hW hK (h .0)) (pair-other hW hK (h .0)) (u % K) us (h .1) (h .2)
@@ -145,13 +145,16 @@ module _ {W K : ℕ} (p m : ℕ) (hW : 0 < W) (hK : 0 < K) where
       ⊎-elim
       (λ w. omega (arith, cell-whole W (at t (twin K x u) + m - p) w, cell-most W (at t u + p - m)))
       (λ g''.
-      let c = round-count (u % K) us (movePair K p m x u t) (rest x u us t h) (hit-carry W K p m t (movePair K p m x u t) (u / K) (pair-length hW hK (h .0)) (pair-other hW hK (h .0)) (u % K) us (h .1) (h .2) g'') in
+      let t' = movePair K p m x u t in
+      let hit = hit-carry W K p m t t' (u / K) (pair-length hW hK (h .0)) (pair-other hW hK (h .0)) (u % K) us (h .1) (h .2) g'' in
+      let c = round-count (u % K) us t' (rest x u us t h) hit in
       omega (arith, cell-most W (at t u + p - m), cell-most W (at t (twin K x u) + m - p)))
       g')
       g
 
 -- the least room fits, and hits
-pair-least : (W K : ℕ) (up : Bool) (t : List ℕ) (x u d : ℕ) → Hop W K t x u → d ≤ room up W (at t u) → d ≤ room (not up) W (at t (twin K x u)) →
+pair-least : (W K : ℕ) (up : Bool) (t : List ℕ) (x u d : ℕ) → Hop W K t x u → d ≤ room up W (at t u) →
+    d ≤ room (not up) W (at t (twin K x u)) →
     Move W K (part up d) (part (not up) d) t x u
 pair-least W K true t x u d h a b = record { hop = h; up = a; down = omega arith; twin-up = omega arith; twin-down = b }
 pair-least W K false t x u d h a b = record { hop = h; up = omega arith; down = a; twin-up = b; twin-down = omega arith }

@@ -24,7 +24,8 @@ shown-cell {W} {x} {y} h a w =
     record { low = le-div-iff-mul-le h .1 (a .low); high = omega arith; whole = λ v. ap (λ (k : ℕ). k / W) (a .kept v) }
 
 -- a sum that is right where every cell is W times as much
-sum-units : (W : ℕ) (s u : List ℕ) (b st m : ℕ) → ((k : ℕ) → k < m → at u (b + k * st) * W ≡ at s (b + k * st)) → sum u b st m * W ≡ sum s b st m
+sum-units : (W : ℕ) (s u : List ℕ) (b st m : ℕ) → ((k : ℕ) → k < m → at u (b + k * st) * W ≡ at s (b + k * st)) →
+    sum u b st m * W ≡ sum s b st m
 unfolding sum
 sum-units W s u b st zero h = omega arith
 sum-units W s u b st (suc m) h =

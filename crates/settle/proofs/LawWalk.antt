@@ -206,13 +206,15 @@ free-way {K = K} {path = path} {r = r} {c = c} h =
     let q = digits-mod r (h .col) in
     free-push K (r * K + c) path K (rw q (h .col)) (rw q (h .new))
 
-pub free-next : {W K n : ℕ} {t path : List ℕ} {r c : ℕ} → Way W K n t path r c → (f : ℕ) → free K path K ≤ f → free K ((r * K + c) ∷ path) K ≤ f - 1
+pub free-next : {W K n : ℕ} {t path : List ℕ} {r c : ℕ} → Way W K n t path r c → (f : ℕ) → free K path K ≤ f →
+    free K ((r * K + c) ∷ path) K ≤ f - 1
 free-next h f l = omega (arith, free-way h)
 
 pub free-some : {W K n : ℕ} {t path : List ℕ} {r c : ℕ} → Way W K n t path r c → 0 < free K path K
 free-some h = omega (arith, free-way h)
 
-pub walk-round : {W K n : ℕ} {t : List ℕ} → 0 < K → Even W K n t → (f : ℕ) {path : List ℕ} {r c : ℕ} → Way W K n t path r c → free K path K ≤ f →
+pub walk-round : {W K n : ℕ} {t : List ℕ} → 0 < K → Even W K n t → (f : ℕ) {path : List ℕ} {r c : ℕ} → Way W K n t path r c →
+    free K path K ≤ f →
     Closed W K t (walk W K n t f path r c)
 unfolding walk
 walk-round hK ev zero h l = absurd (omega (arith, free-some h))
@@ -277,7 +279,8 @@ pushing us a v z l =
     let e : suc (a - 1) ≡ a = omega arith in
     store-drop us (a - 1) v (omega arith) ∙ ap (λ (j : ℕ). v ∷ drop j us) e
 
-pub closing : (us : List ℕ) (a v m : ℕ) → 0 < a → a ≤ length us → take (a + m + 1 - (a - 1)) (drop (a - 1) (set us (a - 1) v)) ≡ v ∷ take (suc m) (drop a us)
+pub closing : (us : List ℕ) (a v m : ℕ) → 0 < a → a ≤ length us →
+    take (a + m + 1 - (a - 1)) (drop (a - 1) (set us (a - 1) v)) ≡ v ∷ take (suc m) (drop a us)
 closing us a v m z l =
     let e : a + m + 1 - (a - 1) ≡ suc (suc m) = omega arith in
     rw (e, pushing us a v z l)

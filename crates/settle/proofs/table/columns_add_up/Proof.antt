@@ -20,7 +20,8 @@ abbrev start : tie.In-loop Inv-loop μ-loop → tie.Start Inv-loop μ-loop
 start c = c .before .before .before
 
 -- the last row ends where the table does
-below : (c : tie.In-loop Inv-loop μ-loop) → (start c .args .n - 1) * start c .args .k + start c .args .k ≡ start c .args .n * start c .args .k
+below : (c : tie.In-loop Inv-loop μ-loop) →
+    (start c .args .n - 1) * start c .args .k + start c .args .k ≡ start c .args .n * start c .args .k
 below c = last-row (start c .args .k) (start c .pre .small .high)
 
 mul-last : tie.Need-mul-last Inv-loop μ-loop

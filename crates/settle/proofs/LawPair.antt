@@ -18,7 +18,7 @@ use Rattle.settle.proofs.LawLine.{pick-yes, pick-no, by-dec, sum-in, su
 use Rattle.settle.proofs.LawNear.{within-refl, within-move}
 
 -- v where a is b, else 0
-abbrev pub tag : ℕ → ℕ → ℕ → ℕ
+abbrev pub tag : (a b v : ℕ) → ℕ
 tag a b v = pick (ℕ-discrete a b) v 0
 
 tag-add : {P : Type 0} (d : Dec P) (a b p m : ℕ) → a + p ≡ b + m → pick d a 0 + pick d p 0 ≡ pick d b 0 + pick d m 0

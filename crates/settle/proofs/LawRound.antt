@@ -19,7 +19,7 @@ use Rattle.settle.proofs.LawNear.{within-refl, within-trans, hit-up, hi
 use Rattle.settle.proofs.LawPair.{tag, twin-at, pair-length, pair-row, pair-column, pair-other, pair-within}
 
 -- some cell of the round becomes whole
-abbrev pub Hit : ℕ → ℕ → ℕ → ℕ → List ℕ → ℕ → List ℕ → Type 0
+abbrev pub Hit : (W K p m : ℕ) (t : List ℕ) (x : ℕ) (us : List ℕ) → Type 0
 Hit W K p m t x [] = ⊥
 Hit W K p m t x (u ∷ us) = Whole W (at t u + p - m) ⊎ (Whole W (at t (twin K x u) + m - p) ⊎ Hit W K p m t (u % K) us)
 

@@ -17,7 +17,7 @@ use Rattle.settle.specs.Inner.{mostCells, Small, Even, Misses, Apart, Ne
 use Rattle.settle.proofs.LawLine.{pick-yes, pick-no, by-dec, finds}
 
 -- the newest row of the path is not r
-abbrev pub Headed : ℕ → ℕ → List ℕ → Type 0
+abbrev pub Headed : (K r : ℕ) (us : List ℕ) → Type 0
 Headed K r [] = Unit {0}
 Headed K r (u ∷ us) = u / K ≢ r
 
@@ -97,10 +97,10 @@ new? : (K j : ℕ) (us : List ℕ) → Dec (New K j us)
 new? K j [] = yes tt
 new? K j (v ∷ vs) = by-dec (ℕ-discrete (v % K) j) (λ e. no (λ h. h .0 e)) (λ e. by-dec (new? K j vs) (λ h. yes (e, h)) (λ q. no (λ h. q (h .1))))
 
-abbrev one : ℕ → ℕ → List ℕ → ℕ
+abbrev one : (K j : ℕ) (us : List ℕ) → ℕ
 one K j us = pick (new? K j us) 1 0
 
-pub free : ℕ → List ℕ → ℕ → ℕ
+pub free : (K : ℕ) (us : List ℕ) (j : ℕ) → ℕ
 free K us zero = 0
 free K us (suc j) = free K us j + one K j us
 

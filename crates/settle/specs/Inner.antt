@@ -36,7 +36,7 @@ pub record Cell (K n j x : ℕ) : Type 0 where
   pub inside : j < n * K
   pub most : x ≤ limit
 
--- the line b, b + s, .., of m places is in the list, and not one line's length past its end
+-- the line b, b + s, .., of m places is in the list, and the place after its last is at most a row past the largest table's end
 pub record Line (t : List ℕ) (b s m : ℕ) : Type 0 where
   pub cells : (k : ℕ) → k < m → b + k * s < length t
   pub small : b + m * s ≤ mostCells + mostColumns
@@ -96,7 +96,7 @@ pub record Hop (W K : ℕ) (t : List ℕ) (x u : ℕ) : Type 0 where
   pub loose : at t u % W ≢ 0
   pub twin-loose : at t (twin K x u) % W ≢ 0
 
--- r is the row of none of these cells; c the column of none
+-- no cell has r for its f; so r is the row of none of the cells, or c the column of none
 abbrev pub Misses : (f : ℕ → ℕ) (r : ℕ) (us : List ℕ) → Type 0
 Misses f r [] = Unit {0}
 Misses f r (v ∷ vs) = (f v ≢ r) × Misses f r vs

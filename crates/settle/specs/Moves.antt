@@ -27,7 +27,7 @@ abbrev pub Among : (v : ℕ) (us : List ℕ) → Type 0
 Among v [] = ⊥
 Among v (u ∷ us) = (u ≡ v) ⊎ Among v us
 
--- how many of the cells are in row r, and in column c
+-- how many of the cells have r for their f; with the row or the column of a cell for f, how many are in row r, or in column c
 abbrev pub same : (a b : ℕ) → ℕ
 same a b = pick (ℕ-discrete a b) 1 0
 

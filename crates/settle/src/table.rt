@@ -31,7 +31,7 @@ fn adds_up(t: &[u64], x: u64, b: usize, s: usize, m: usize) -> bool
     left == 0
 }
 
-// Whether no cell is above the limit; whether column 0 is the sum of the others in every row; whether the last row is the sum of those above.
+// Whether no cell is above the limit.
 fn cells_fit(t: &[u64]) -> bool
     ensures { λ r. ⌜ r ≡ all (length (now (t .entry))) (spec.cellFits (now (t .entry))) ⌝ }
 {
@@ -44,6 +44,7 @@ fn cells_fit(t: &[u64]) -> bool
     ok
 }
 
+// Whether in every row column 0 is the sum of the others.
 fn rows_add_up(t: &[u64], k: usize, n: usize) -> bool
     requires { ⌜ Frame k n (now t) ⌝ }
     ensures { λ r. ⌜ r ≡ all n (spec.rowAddsUp k (now (t .entry))) ⌝ }
@@ -58,6 +59,7 @@ fn rows_add_up(t: &[u64], k: usize, n: usize) -> bool
     ok
 }
 
+// Whether in every column the last row is the sum of the rows above.
 fn columns_add_up(t: &[u64], k: usize, n: usize) -> bool
     requires { ⌜ Frame k n (now t) ⌝ }
     ensures { λ r. ⌜ r ≡ all k (spec.columnAddsUp k n (now (t .entry))) ⌝ }

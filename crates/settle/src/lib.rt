@@ -74,8 +74,7 @@ pub fn step(
 }
 
 // The shown table of `exact`, in whole units, written to the front of `shown`: as many steps as there are cells, which is always enough,
-// then the division. A table of which all cells are whole is only divided. The answers are those of `step`, and `marked` means what it means
-// there.
+// then the division. A table of which all cells are whole is only divided. The answers are those of `step`, and so is what `marked` means.
 pub fn show(
     unit: u64,
     columns: usize,

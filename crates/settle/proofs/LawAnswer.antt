@@ -1,98 +1,102 @@
--- The answers of a public function, and the case that its caller can count on.
+-- Each answer of a public function is read off the tests that led to it, and for a good table and enough room only one answer is left.
 use mathlib.Core.Path.{_≡_, refl, sym, ap, _∙_}
 use mathlib.Core.Bool.{Bool, true, false, cond}
 use mathlib.Core.List.{List, _++_}
-use Prim.Native.Nat.{ℕ, _*_, _≤_, _<_}
+use Prim.Native.Nat.{ℕ, _≤_, _<_}
 use native.Mathlib.Omega.{arith}
 use borrow.Author.Tests.{le-leb, lt-leb}
 use lib.Dec.{leb}
 use lib.ListN.{length, drop, take, length-append}
 use lib.Seq.{take-at, drop-at}
-use Rattle.settle.specs.Shown.{Shown}
+use Rattle.search.proofs.LawTest.{clash}
+use Rattle.settle.specs.Grid.{Grid, area}
 use Rattle.settle.specs.Table.{Good, isGood}
-use Rattle.settle.specs.Step.{step, changes, units, shownTable}
-use Rattle.settle.specs.Answer.{answer, result, Answers}
+use Rattle.settle.specs.Step.{step, after, changes, units, shownTable}
+use Rattle.settle.specs.Answer.{answer, result, AnswersStep, AnswersShow, Showing}
+use Rattle.settle.specs.Inner.{Steps}
 use Rattle.settle.specs.declared.Settled.{Settled}
 use Rattle.settle.specs.declared.Settled.the-variants.{Done, Off, Short}
 use Rattle.settle.proofs.LawCells.{length-units}
-use Rattle.settle.proofs.LawShown.{shown-length, shown-law, shown-more}
+use Rattle.settle.proofs.LawShown.{shown-length, shown-law, shown-more, shown-steps}
+use Rattle.settle.proofs.LawSteps.{steps-good}
 use Rattle.settle.proofs.LawTable.{good-of, good-is}
 
-module _ (f W K n : ℕ) (t table lent : List ℕ) where
-  pub answers-off : isGood W K n t ≡ false → Answers f W K n t table lent lent Off
+-- the three answers of a step
+module _ (g : Grid) (f : ℕ) (t lent : List ℕ) where
+  pub answers-off : isGood g t ≡ false → AnswersStep g f t lent lent Off
   unfolding answer result
   answers-off e = record { is = rw e refl; cells = refl }
 
-  pub answers-short : isGood W K n t ≡ true → length lent < length t → Answers f W K n t table lent lent Short
+  pub answers-short : isGood g t ≡ true → length lent < length t → AnswersStep g f t lent lent Short
   unfolding answer result
   answers-short e l =
-      let s = good-of W K n t e .size in
-      record { is = rw (e, lt-leb (n * K) (length lent) (omega arith)) refl; cells = refl }
+      let s = good-of g t e .size in
+      record { is = rw (e, lt-leb (area g) (length lent) (omega arith)) refl; cells = refl }
 
-  pub answers-done : isGood W K n t ≡ true → length t ≤ length lent → (r : ℕ) → r ≡ changes (step W K n) W f t → (s : List ℕ) → s ≡ table → length table ≡ n * K →
-      Answers f W K n t table lent (s ++ drop (length t) lent) (Done r)
+  pub answers-done : {s : List ℕ} {r : ℕ} → isGood g t ≡ true → length t ≤ length lent → Steps (step g) (g .unit) f t s r →
+      AnswersStep g f t lent (s ++ drop (length t) lent) (Done r)
   unfolding answer result
-  answers-done e l r p s q m =
-      let z = good-of W K n t e .size in
-      let k : length t ≡ length table = omega arith in
-      record { is = rw (e, le-leb (n * K) (length lent) (omega arith), p) refl; cells = rw (q, k) refl }
-
--- a good table and a lent result that has room are taken
-pub taken : (f W K n : ℕ) (t : List ℕ) (room : ℕ) → Good W K n t → n * K ≤ room → answer f W K n t room ≡ Done (changes (step W K n) W f t)
-unfolding answer
-taken f W K n t room h l = rw (good-is W K n t h, le-leb (n * K) room l) refl
+  answers-done e l k =
+      let h = good-of g t e in
+      let z = h .size in
+      let m : length t ≡ length (after (step g) f t) = z ∙ sym (steps-good f h .size) in
+      record { is = rw (e, le-leb (area g) (length lent) (omega arith), k .count) refl; cells = rw (k .table, m) refl }
 
 -- what is done was done to a good table
-done-only : (g : Bool) (c : Bool) (x m : ℕ) → cond g (cond c (Done x) Short) Off ≡ Done m → g ≡ true
+done-only : (g c : Bool) (x m : ℕ) → cond g (cond c (Done x) Short) Off ≡ Done m → g ≡ true
 done-only true c x m e = refl
-done-only false c x m e = cc
+done-only false c x m e = clash (cc)
 
-pub done-good : (f W K n : ℕ) (t : List ℕ) (room m : ℕ) → answer f W K n t room ≡ Done m → Good W K n t
-unfolding answer
-done-good f W K n t room m e = good-of W K n t (done-only (isGood W K n t) (leb (n * K) room) _ m e)
+-- `show` goes on from the answer of `step`
+module _ {g : Grid} {f : ℕ} {t lent lent' : List ℕ} {r : Settled} (a : AnswersStep g f t lent lent' r) where
+  abbrev table : List ℕ
+  table = after (step g) f t
 
--- a function that goes on from such an answer
-module _ (f W K n : ℕ) (t table lent lent' : List ℕ) (r : Settled) (a : Answers f W K n t table lent lent' r) where
-  pub still-off : r ≡ Off → (other : List ℕ) → Answers f W K n t other lent lent' Off
+  left : {o : Settled} → r ≡ o → lent' ≡ result o table lent
+  left e = a .cells ∙ ap (λ (s : Settled). result s table lent) e
+
+  pub still-off : f ≡ length t → r ≡ Off → AnswersShow g t lent lent' Off
   unfolding result
-  still-off e other = record { is = sym e ∙ a .is; cells = a .cells ∙ ap (λ (s : Settled). result s table lent) e }
+  still-off z e = record { is = rw (← z) (sym e ∙ a .is); cells = left e }
 
-  pub still-short : r ≡ Short → (other : List ℕ) → Answers f W K n t other lent lent' Short
+  pub still-short : f ≡ length t → r ≡ Short → AnswersShow g t lent lent' Short
   unfolding result
-  still-short e other = record { is = sym e ∙ a .is; cells = a .cells ∙ ap (λ (s : Settled). result s table lent) e }
+  still-short z e = record { is = rw (← z) (sym e ∙ a .is); cells = left e }
 
-  module _ (m : ℕ) (e : r ≡ Done m) where
-    pub done-table : Good W K n t
-    done-table = done-good f W K n t (length lent) m (sym (a .is) ∙ e)
+  module _ {m : ℕ} (e : r ≡ Done m) where
+    pub done-good : Good g t
+    unfolding answer
+    done-good = good-of g t (done-only (isGood g t) (leb (area g) (length lent)) _ _ (sym (a .is) ∙ e))
+
+    table-length : length table ≡ length t
+    table-length = steps-good f done-good .size ∙ sym (done-good .size)
 
     done-cells : lent' ≡ table ++ drop (length table) lent
     unfolding result
-    done-cells = a .cells ∙ ap (λ (s : Settled). result s table lent) e
+    done-cells = left e
 
-    pub done-room : length table ≡ length t → length t ≤ length lent'
-    done-room l = omega (arith, ap length done-cells, length-append table (drop (length table) lent))
+    pub done-room : length t ≤ length lent'
+    done-room = omega (arith, ap length done-cells, length-append table (drop (length table) lent), table-length)
 
-    pub divided : length table ≡ length t → (s : List ℕ) → s ≡ units W (take (length t) lent') →
-        Answers f W K n t (units W table) lent (s ++ drop (length t) lent') (Done m)
+    pub divided : {s : List ℕ} → f ≡ length t → s ≡ units (g .unit) (take (length t) lent') →
+        AnswersShow g t lent (s ++ drop (length t) lent') (Done m)
     unfolding result
-    divided l s p =
-        let u = take-at table (drop (length table) lent) (length t) l in
-        let d = drop-at table (drop (length table) lent) (length t) l in
-        let k = length-units W table in
-        record { is = sym e ∙ a .is; cells = rw (p, done-cells, u, d, k) refl }
+    divided z p =
+        let u = take-at table (drop (length table) lent) (length t) table-length in
+        let d = drop-at table (drop (length table) lent) (length t) table-length in
+        let k = length-units (g .unit) table in
+        let whole : shownTable g t ≡ units (g .unit) table = rw z (shown-steps done-good) in
+        record { is = rw (← z) (sym e ∙ a .is); cells = rw (whole, p, done-cells, u, d, k) refl }
 
--- what a caller has of `show`: the lent cells begin with the shown table, which may be shown, and the others are as they were
-pub record Showing (W K n : ℕ) (t lent lent' : List ℕ) (r : Settled) : Type 0 where
-  pub is : r ≡ Done (changes (step W K n) W (length t) t)
-  pub cells : lent' ≡ shownTable W K n t ++ drop (n * K) lent
-  pub shown : Shown W K n t lent'
-
-pub showing : (W K n : ℕ) (t lent lent' : List ℕ) (r : Settled) → Good W K n t → n * K ≤ length lent →
-    Answers (length t) W K n t (shownTable W K n t) lent lent' r → Showing W K n t lent lent' r
-unfolding result
-showing W K n t lent lent' r h l a =
-    let e = a .is ∙ taken (length t) W K n t (length lent) h l in
-    let s = shownTable W K n t in
-    let k = shown-length W K n t h in
-    let c : lent' ≡ s ++ drop (n * K) lent = a .cells ∙ ap (λ (v : Settled). result v s lent) e ∙ ap (λ (i : ℕ). s ++ drop i lent) k in
-    record { is = e; cells = c; shown = rw c (shown-more W K n t h s (drop (n * K) lent) k (shown-law W K n t h)) }
+-- what a caller has of `show`
+pub showing : {g : Grid} {t lent lent' : List ℕ} {r : Settled} → Good g t → area g ≤ length lent → AnswersShow g t lent lent' r →
+    Showing g t lent lent' r
+unfolding answer result
+showing {g} {t} {lent} h l a =
+    let done : answer g (length t) t (length lent) ≡ Done (changes (step g) (g .unit) (length t) t) =
+    rw (good-is h, le-leb (area g) (length lent) l) refl in
+    let e = a .is ∙ done in
+    let s = shownTable g t in
+    let k = shown-length h in
+    let c : _ ≡ s ++ drop (area g) lent = a .cells ∙ ap (λ (v : Settled). result v s lent) e ∙ ap (λ (i : ℕ). s ++ drop i lent) k in
+    record { is = e; cells = c; shown = rw c (shown-more h s (drop (area g) lent) k (shown-law h)) }

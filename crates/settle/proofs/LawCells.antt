@@ -1,4 +1,4 @@
--- A loop that writes every cell anew, and the cells in whole units.
+-- A loop that writes every cell anew has, before place i, the new cells, and from there on the old ones; at its end all are new.
 use mathlib.Core.Path.{_≡_, refl, sym, ap, _∙_}
 use mathlib.Core.List.{List, [], _∷_}
 use Prim.Native.Nat.{ℕ, zero, suc, _+_, _/_, _≤_, _<_}
@@ -11,31 +11,31 @@ use Rattle.settle.specs.Shown.{at}
 use Rattle.settle.specs.Step.{units}
 use Rattle.settle.proofs.LawLine.{by-dec}
 
--- t is t₀ with f put to work on the cells before place i
+-- t is t₀ with f put to work on the cells before place i (f has the place and the old cell)
 pub record Written (f : ℕ → ℕ → ℕ) (i : ℕ) (t₀ t : List ℕ) : Type 0 where
   pub size : length t ≡ length t₀
   pub done : (j : ℕ) → j < i → at t j ≡ f j (at t₀ j)
   pub rest : (j : ℕ) → i ≤ j → at t j ≡ at t₀ j
 
-module _ (f : ℕ → ℕ → ℕ) where
-  pub written-none : (t : List ℕ) → Written f 0 t t
-  written-none t = record { size = refl; done = λ j l. absurd (omega arith); rest = λ j l. refl }
+pub written-none : {f : ℕ → ℕ → ℕ} {t : List ℕ} → Written f 0 t t
+written-none = record { size = refl; done = λ j l. absurd (omega arith); rest = λ j l. refl }
 
-  pub written-more : (i : ℕ) (t₀ t : List ℕ) (y : ℕ) → Written f i t₀ t → i < length t → y ≡ f i (at t i) → Written f (i + 1) t₀ (set t i y)
-  written-more i t₀ t y h l e =
-      record {
-        size = length-set t i y ∙ h .size;
-        done = λ j m.
-            by-dec (ℕ-discrete j i)
-            (λ q. rw q (getD-set-same t i y 0 l ∙ e ∙ ap (f i) (h .rest i (omega arith))))
-            (λ q. getD-set-other t i j y 0 q ∙ h .done j (omega arith));
-        rest = λ j m. getD-set-other t i j y 0 (omega arith) ∙ h .rest j (omega arith);
-      }
+pub written-more : {f : ℕ → ℕ → ℕ} {i : ℕ} {t₀ t : List ℕ} {y : ℕ} → Written f i t₀ t → i < length t → y ≡ f i (at t i) →
+    Written f (i + 1) t₀ (set t i y)
+written-more {f} {i} {t₀} {t} {y} h l e =
+    record {
+      size = length-set t i y ∙ h .size;
+      done = λ j m.
+          by-dec (ℕ-discrete j i)
+          (λ q. rw q (getD-set-same t i y 0 l ∙ e ∙ ap (f i) (h .rest i (omega arith))))
+          (λ q. getD-set-other t i j y 0 q ∙ h .done j (omega arith));
+      rest = λ j m. getD-set-other t i j y 0 (omega arith) ∙ h .rest j (omega arith);
+    }
 
-  pub written-all : (i : ℕ) (t₀ t s : List ℕ) → Written f i t₀ t → length t ≤ i → length s ≡ length t₀ →
-      ((j : ℕ) → j < length t₀ → at s j ≡ f j (at t₀ j)) → t ≡ s
-  written-all i t₀ t s h l e g =
-      ext-getD 0 t s (h .size ∙ sym e) (λ j m. h .done j (omega arith) ∙ sym (g j (omega (arith, h .size))))
+pub written-all : {f : ℕ → ℕ → ℕ} {i : ℕ} {t₀ t s : List ℕ} → Written f i t₀ t → length t ≤ i → length s ≡ length t₀ →
+    ((j : ℕ) → j < length t₀ → at s j ≡ f j (at t₀ j)) → t ≡ s
+written-all {t = t} {s = s} h l e g =
+    ext-getD 0 t s (h .size ∙ sym e) (λ j m. h .done j (omega arith) ∙ sym (g j (omega (arith, h .size))))
 
 pub length-units : (W : ℕ) (t : List ℕ) → length (units W t) ≡ length t
 unfolding units

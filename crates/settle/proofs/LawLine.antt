@@ -1,4 +1,5 @@
--- Laws of a line: its sum after a store, and that a loose cell of a line whose sum is whole has another one.
+-- By induction on a line's length: a store on the line changes the sum by what it changes the cell, and one off the line not at all; a line of
+-- which all cells but one are whole has the remainder of that one, so a loose cell of a line whose sum is whole has another one.
 use mathlib.Core.Path.{_≡_, refl, sym, ap, _∙_}
 use mathlib.Core.Logic.{_≢_, _⊎_, ⊎-elim}
 use mathlib.Core.List.{List}
@@ -35,7 +36,8 @@ sum-out t b s (suc n) i v h =
     omega arith
 
 -- a store at place k of the line
-pub sum-in : (t : List ℕ) (b s n k i v : ℕ) → 0 < s → k < n → i ≡ b + k * s → i < length t → sum (set t i v) b s n + at t i ≡ sum t b s n + v
+pub sum-in : (t : List ℕ) (b s n k i v : ℕ) → 0 < s → k < n → i ≡ b + k * s → i < length t →
+    sum (set t i v) b s n + at t i ≡ sum t b s n + v
 unfolding sum
 sum-in t b s zero k i v hs hk e hi = omega arith
 sum-in t b s (suc n) k i v hs hk e hi =
@@ -62,7 +64,8 @@ sum-whole W t b s (suc n) h =
     ∙ rw (sum-whole W t b s n (λ k l. h k (omega arith)), h n (omega arith), zero-add) (zero-mod W)
 
 -- where all but one are whole, the sum is as that one
-pub sum-one : (W : ℕ) (t : List ℕ) (b s n k : ℕ) → k < n → ((j : ℕ) → j < n → j ≢ k → Whole W (at t (b + j * s))) → sum t b s n % W ≡ at t (b + k * s) % W
+pub sum-one : (W : ℕ) (t : List ℕ) (b s n k : ℕ) → k < n → ((j : ℕ) → j < n → j ≢ k → Whole W (at t (b + j * s))) →
+    sum t b s n % W ≡ at t (b + k * s) % W
 unfolding sum
 sum-one W t b s zero k l h = absurd (omega arith)
 sum-one W t b s (suc n) k l h =
@@ -75,24 +78,29 @@ sum-one W t b s (suc n) k l h =
     ∙ rw (h n (omega arith) (omega arith), add-zero, mod-mod) (sum-one W t b s n k (omega arith) (λ j m. h j (omega arith))))
 
 -- what seek finds
-pub record Sought (W : ℕ) (t : List ℕ) (b s q m k r : ℕ) : Type 0 where
+pub record Seen (W : ℕ) (t : List ℕ) (b s q m k r : ℕ) : Type 0 where
   pub most : r ≤ k + m
   pub hit : r < k + m → (r ≢ q) × (at t (b + r * s) % W ≢ 0)
   pub passed : (j : ℕ) → k ≤ j → j < r → j ≢ q → Whole W (at t (b + j * s))
 
 module _ (W : ℕ) (t : List ℕ) (b s q : ℕ) where
-  more : (m k r : ℕ) → Sought W t b s q m (suc k) r → (k ≢ q → Whole W (at t (b + k * s))) → Sought W t b s q (suc m) k r
-  more m k r g h = record { most = omega (arith, g .most); hit = λ l. g .hit (omega arith); passed = λ j a l z. by-dec (ℕ-discrete j k) (λ e. rw e (h (λ y. z (e ∙ y)))) (λ n. g .passed j (omega arith) l z) }
+  more : (m k r : ℕ) → Seen W t b s q m (suc k) r → (k ≢ q → Whole W (at t (b + k * s))) → Seen W t b s q (suc m) k r
+  more m k r g h =
+      record {
+        most = omega (arith, g .most);
+        hit = λ l. g .hit (omega arith);
+        passed = λ j a l z. by-dec (ℕ-discrete j k) (λ e. rw e (h (λ y. z (e ∙ y)))) (λ n. g .passed j (omega arith) l z);
+      }
 
-  pub sought : (m k : ℕ) → Sought W t b s q m k (seek W t b s q m k)
+  pub seen : (m k : ℕ) → Seen W t b s q m k (seek W t b s q m k)
   unfolding seek
-  sought zero k = record { most = omega arith; hit = λ l. absurd (omega arith); passed = λ j a l z. absurd (omega arith) }
-  sought (suc m) k =
+  seen zero k = record { most = omega arith; hit = λ l. absurd (omega arith); passed = λ j a l z. absurd (omega arith) }
+  seen (suc m) k =
       by-dec (ℕ-discrete k q)
-      (λ e. rw (pick-yes (ℕ-discrete k q) (seek W t b s q m (suc k)) _ e) (more m k _ (sought m (suc k)) (λ z. absurd (z e))))
+      (λ e. rw (pick-yes (ℕ-discrete k q) (seek W t b s q m (suc k)) _ e) (more m k _ (seen m (suc k)) (λ z. absurd (z e))))
       (λ e. rw (pick-no (ℕ-discrete k q) (seek W t b s q m (suc k)) _ e)
       (by-dec (whole? W (at t (b + k * s)))
-      (λ w. rw (pick-yes (whole? W (at t (b + k * s))) (seek W t b s q m (suc k)) k w) (more m k _ (sought m (suc k)) (λ z. w)))
+      (λ w. rw (pick-yes (whole? W (at t (b + k * s))) (seek W t b s q m (suc k)) k w) (more m k _ (seen m (suc k)) (λ z. w)))
       (λ w. rw (pick-no (whole? W (at t (b + k * s))) (seek W t b s q m (suc k)) k w)
       (record { most = omega arith; hit = λ l. (e, w); passed = λ j a l z. absurd (omega arith) }))))
 
@@ -102,9 +110,10 @@ pub record Found (W : ℕ) (t : List ℕ) (b s n q r : ℕ) : Type 0 where
   pub other : r ≢ q
   pub loose : at t (b + r * s) % W ≢ 0
 
-pub finds : (W : ℕ) (t : List ℕ) (b s n q : ℕ) → Whole W (sum t b s n) → q < n → at t (b + q * s) % W ≢ 0 → Found W t b s n q (seek W t b s q n 0)
+pub finds : (W : ℕ) (t : List ℕ) (b s n q : ℕ) → Whole W (sum t b s n) → q < n → at t (b + q * s) % W ≢ 0 →
+    Found W t b s n q (seek W t b s q n 0)
 finds W t b s n q w l h =
-    let g = sought W t b s q n 0 in
+    let g = seen W t b s q n 0 in
     by-dec (ℕ-discrete (seek W t b s q n 0) n)
     (λ e. absurd (h (sym (sum-one W t b s n q l (λ j m z. g .passed j (omega arith) (omega arith) z)) ∙ w)))
     (λ e.

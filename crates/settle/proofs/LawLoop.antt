@@ -1,8 +1,9 @@
--- What a loop over a list asks of the functions that recurse on it.
+-- A loop over a list stands before what is left of it, `drop i us`: one turn on, a function that recurses on the list has gone one cell on, and
+-- past the end it has its value for no cells.
 use mathlib.Core.Path.{_≡_}
 use mathlib.Core.Logic.{_≢_}
 use mathlib.Core.List.{List, [], _∷_}
-use mathlib.Core.Bool.{Bool, true, false, not}
+use mathlib.Core.Bool.{Bool, not}
 use Prim.Native.Nat.{ℕ, suc, _+_, _*_, _%_, _≤_, _<_, min}
 use native.Mathlib.Decide.{ℕ-discrete}
 use native.Mathlib.Numerals.{add-one}
@@ -10,7 +11,7 @@ use native.Mathlib.Omega.{arith}
 use lib.ListN.{length, getD, drop, drop-of-length-le}
 use lib.Seq.{drop-cons}
 use Rattle.settle.specs.Shown.{at, Whole}
-use Rattle.settle.specs.Step.{closes, rises, least, shift, turn, twin, room}
+use Rattle.settle.specs.Step.{closes, rises, least, moveBy, movePair, twin, room}
 use Rattle.settle.proofs.LawLine.{pick-yes, pick-no}
 use Rattle.settle.proofs.LawWalk.{closes-whole, closes-here}
 
@@ -21,23 +22,24 @@ module _ (W K : ℕ) (t : List ℕ) (r : ℕ) (us : List ℕ) (i : ℕ) where
   pub closes-stop : i < length us → at t (r * K + getD us i 0 % K) % W ≢ 0 → closes W K t r (drop i us) ≡ 0
   closes-stop l h = rw (drop-next us i l) (closes-here W K t r (getD us i 0) (drop (i + 1) us) h)
 
-  pub closes-on : i < length us → Whole W (at t (r * K + getD us i 0 % K)) → closes W K t r (drop i us) ≡ suc (closes W K t r (drop (i + 1) us))
+  pub closes-on : i < length us → Whole W (at t (r * K + getD us i 0 % K)) →
+      closes W K t r (drop i us) ≡ suc (closes W K t r (drop (i + 1) us))
   closes-on l h = rw (drop-next us i l) (closes-whole W K t r (getD us i 0) (drop (i + 1) us) h)
 
   pub closes-out : length us ≤ i → closes W K t r (drop i us) ≡ 0
   unfolding closes
   closes-out l = rw (drop-of-length-le us l)
 
-module _ (mark : ℕ) (us : List ℕ) (i : ℕ) where
-  pub rises-stop : i < length us → getD us i 0 ≡ mark → rises mark (drop i us) ≡ false
+module _ (up : Bool) (mark : ℕ) (us : List ℕ) (i : ℕ) where
+  pub rises-stop : i < length us → getD us i 0 ≡ mark → rises up mark (drop i us) ≡ up
   unfolding rises
   rises-stop l h = rw (drop-next us i l) (pick-yes (ℕ-discrete (getD us i 0) mark) _ _ h)
 
-  pub rises-on : i < length us → getD us i 0 ≢ mark → rises mark (drop i us) ≡ rises mark (drop (i + 1) us)
+  pub rises-on : i < length us → getD us i 0 ≢ mark → rises up mark (drop i us) ≡ rises up mark (drop (i + 1) us)
   unfolding rises
   rises-on l h = rw (drop-next us i l) (pick-no (ℕ-discrete (getD us i 0) mark) _ _ h)
 
-  pub rises-out : length us ≤ i → rises mark (drop i us) ≡ true
+  pub rises-out : length us ≤ i → rises up mark (drop i us) ≡ not up
   unfolding rises
   rises-out l = rw (drop-of-length-le us l)
 
@@ -52,13 +54,14 @@ module _ (W K : ℕ) (up : Bool) (t : List ℕ) (x : ℕ) (us : List ℕ) (i : �
   least-out l = rw (drop-of-length-le us l)
 
 module _ (K p m : ℕ) (x : ℕ) (us : List ℕ) (i : ℕ) (t : List ℕ) where
-  pub shift-on : i < length us → shift K p m x (drop i us) t ≡ shift K p m (getD us i 0 % K) (drop (i + 1) us) (turn K p m x (getD us i 0) t)
-  unfolding shift
-  shift-on l = rw (drop-next us i l)
+  pub move-on : i < length us →
+      moveBy K p m x (drop i us) t ≡ moveBy K p m (getD us i 0 % K) (drop (i + 1) us) (movePair K p m x (getD us i 0) t)
+  unfolding moveBy
+  move-on l = rw (drop-next us i l)
 
-  pub shift-out : length us ≤ i → shift K p m x (drop i us) t ≡ t
-  unfolding shift
-  shift-out l = rw (drop-of-length-le us l)
+  pub move-out : length us ≤ i → moveBy K p m x (drop i us) t ≡ t
+  unfolding moveBy
+  move-out l = rw (drop-of-length-le us l)
 
 -- no least room is above W
 pub least-most : (W K : ℕ) (up : Bool) (t : List ℕ) (x : ℕ) (us : List ℕ) → min W (least W K up t x us) ≡ least W K up t x us
@@ -67,5 +70,6 @@ least-most W K up t x [] = omega arith
 least-most W K up t x (u ∷ us) = omega (arith, least-most W K up t (u % K) us)
 
 -- a turn of the loop that finds the least
-pub least-step : (best rest all ra rb : ℕ) {b2 b1 a b whole : ℕ} → b2 ≡ min best b1 → b1 ≡ min a b → a ≡ ra → b ≡ rb → whole ≡ min (min ra rb) rest → min best whole ≡ all → min b2 rest ≡ all
+pub least-step : (best rest all ra rb : ℕ) {b2 b1 a b whole : ℕ} → b2 ≡ min best b1 → b1 ≡ min a b → a ≡ ra → b ≡ rb →
+    whole ≡ min (min ra rb) rest → min best whole ≡ all → min b2 rest ≡ all
 least-step best rest all ra rb p q r s e f = omega arith

@@ -1,23 +1,27 @@
--- A good table, mirrored, has even lines; and back.
+-- In the mirror the cells with a minus sign stand as what they lack of the limit, so every line of a good table sums to a multiple of the limit.
+-- A step keeps those sums; mirrored back, they are the table's own sums again. Bounds and whole cells go to their complements and back.
 use mathlib.Core.Path.{_≡_, refl, sym, ap, _∙_}
 use mathlib.Core.Logic.{_≢_, _⊎_, inl, inr, ⊎-elim}
 use mathlib.Core.List.{List, [], _∷_}
 use Prim.Native.Nat.{ℕ, zero, suc, _+_, _-_, _*_, _/_, _%_, _≤_, _<_}
-use native.Mathlib.Nat.{le-of-suc-le-suc, zero-add, div-add-mod', mod-lt, add-mod, mod-mod, div-lt-iff-lt-mul, add-comm, zero-mod, add-zero, div-eq-of-lt-le}
+use native.Mathlib.Nat.{le-of-suc-le-suc, zero-add, div-add-mod', mod-lt, add-mod, mod-mod, div-lt-iff-lt-mul, add-comm, zero-mod, add-zero}
+use native.Mathlib.Nat.{div-eq-of-lt-le}
 use native.Mathlib.Decide.{ℕ-discrete, decLt}
 use native.Mathlib.Omega.{arith}
 use lib.Arith.{digits-mod, digits-lt}
 use lib.ListN.{length, List·getD-eq-default}
 use lib.Seq.{ext-getD}
+use Rattle.settle.specs.Grid.{Grid, area}
 use Rattle.settle.specs.Shown.{at, Whole, sum, Sums}
-use Rattle.settle.specs.Table.{limit, Good}
-use Rattle.settle.specs.Step.{whole?, mirrorAt, mirrors, mirror, looseCell, loose}
+use Rattle.settle.specs.Table.{limit, Shape, Good}
+use Rattle.settle.specs.Step.{whole?, mirrorCell, mirrors, mirror, looseCell, loose}
 use Rattle.settle.specs.Moves.{Within}
-use Rattle.settle.specs.Inner.{Even, Table}
+use Rattle.settle.specs.Inner.{Bounded, Even, Table}
 use Rattle.settle.proofs.LawLine.{pick-yes, pick-no, by-dec}
 use Rattle.settle.proofs.LawNear.{within-refl}
-use Rattle.settle.proofs.LawTurnOnce.{Kept, kept-table}
 use Rattle.settle.proofs.LawRound.{cell-whole, cell-loose}
+use Rattle.settle.proofs.LawStepMirrored.{Kept, kept-table}
+use Rattle.settle.proofs.LawTable.{last-row, small-of}
 
 -- sums of two lists on a line where they agree, and where they complement each other; a sum by its first cell
 sum-same : (t z : List ℕ) (b s m : ℕ) → ((k : ℕ) → k < m → at z (b + k * s) ≡ at t (b + k * s)) → sum z b s m ≡ sum t b s m
@@ -25,7 +29,8 @@ unfolding sum
 sum-same t z b s zero h = refl
 sum-same t z b s (suc m) h = omega (arith, sum-same t z b s m (λ k l. h k (omega arith)), h m (omega arith))
 
-sum-mirror : (t z : List ℕ) (b s m : ℕ) → ((k : ℕ) → k < m → at z (b + k * s) + at t (b + k * s) ≡ limit) → sum z b s m + sum t b s m ≡ m * limit
+sum-mirror : (t z : List ℕ) (b s m : ℕ) → ((k : ℕ) → k < m → at z (b + k * s) + at t (b + k * s) ≡ limit) →
+    sum z b s m + sum t b s m ≡ m * limit
 unfolding sum
 sum-mirror t z b s zero h = omega arith
 sum-mirror t z b s (suc m) h = omega (arith, sum-mirror t z b s m (λ k l. h k (omega arith)), h m (omega arith))
@@ -38,13 +43,13 @@ sum-head t b s (suc m) =
     omega (arith, sum-head t b s m, ap (at t) e)
 
 -- a cell and its complement
-at-mirrors : (K n j : ℕ) (t : List ℕ) (i : ℕ) → i < length t → at (mirrors K n j t) i ≡ mirrorAt K n (j + i) (at t i)
+at-mirrors : (K n j : ℕ) (t : List ℕ) (i : ℕ) → i < length t → at (mirrors K n j t) i ≡ mirrorCell K n (j + i) (at t i)
 unfolding mirrors
 at-mirrors K n j [] i l = absurd (omega arith)
 at-mirrors K n j (x ∷ xs) zero l = let e : j + 0 ≡ j = omega arith in rw e refl
 at-mirrors K n j (x ∷ xs) (suc i) l =
     let e : suc j + i ≡ j + suc i = omega arith in
-    at-mirrors K n (suc j) xs i (le-of-suc-le-suc l) ∙ ap (λ (k : ℕ). mirrorAt K n k (at xs i)) e
+    at-mirrors K n (suc j) xs i (le-of-suc-le-suc l) ∙ ap (λ (k : ℕ). mirrorCell K n k (at xs i)) e
 
 length-mirrors : (K n j : ℕ) (t : List ℕ) → length (mirrors K n j t) ≡ length t
 unfolding mirrors
@@ -54,12 +59,12 @@ length-mirrors K n j (x ∷ xs) = ap suc (length-mirrors K n (suc j) xs)
 pub length-mirror : (K n : ℕ) (t : List ℕ) → length (mirror K n t) ≡ length t
 length-mirror K n t = length-mirrors K n 0 t
 
-pub at-mirror : (K n : ℕ) (t : List ℕ) (i : ℕ) → i < length t → at (mirror K n t) i ≡ mirrorAt K n i (at t i)
-at-mirror K n t i l = at-mirrors K n 0 t i l ∙ ap (λ (k : ℕ). mirrorAt K n k (at t i)) (zero-add i)
+pub at-mirror : (K n : ℕ) (t : List ℕ) (i : ℕ) → i < length t → at (mirror K n t) i ≡ mirrorCell K n i (at t i)
+at-mirror K n t i l = at-mirrors K n 0 t i l ∙ ap (λ (k : ℕ). mirrorCell K n k (at t i)) (zero-add i)
 
 -- by signs: minus, or plus
-pub mirror-cases : (K n j : ℕ) → ((x : ℕ) → mirrorAt K n j x ≡ limit - x) ⊎ ((x : ℕ) → mirrorAt K n j x ≡ x)
-unfolding mirrorAt
+pub mirror-cases : (K n j : ℕ) → ((x : ℕ) → mirrorCell K n j x ≡ limit - x) ⊎ ((x : ℕ) → mirrorCell K n j x ≡ x)
+unfolding mirrorCell
 mirror-cases K n j =
     by-dec (decLt (j + K) (n * K))
     (λ a.
@@ -75,30 +80,28 @@ module _ (K n : ℕ) (hK : 0 < K) where
   above : (i c : ℕ) → i + 1 < n → c < K → i * K + c + K < n * K
   above i c l z = omega (arith, digits-lt l z)
 
-  lowest : (c : ℕ) → 0 < n → n * K ≤ (n - 1) * K + c + K
-  lowest c l = let e : n ≡ suc (n - 1) = omega arith in omega (arith, ap (λ (k : ℕ). k * K) e)
-
   -- column 0 of a row above: minus; its other columns: plus; the last row the other way round
-  minus-above : (i x : ℕ) → i + 1 < n → mirrorAt K n (i * K + 0) x ≡ limit - x
-  unfolding mirrorAt
+  minus-above : (i x : ℕ) → i + 1 < n → mirrorCell K n (i * K + 0) x ≡ limit - x
+  unfolding mirrorCell
   minus-above i x l = pick-yes (decLt (i * K + 0 + K) (n * K)) _ _ (above i 0 l hK) ∙ pick-yes (ℕ-discrete ((i * K + 0) % K) 0) _ _ (digits-mod i hK)
 
-  plus-above : (i c x : ℕ) → i + 1 < n → c < K → c ≢ 0 → mirrorAt K n (i * K + c) x ≡ x
-  unfolding mirrorAt
+  plus-above : (i c x : ℕ) → i + 1 < n → c < K → c ≢ 0 → mirrorCell K n (i * K + c) x ≡ x
+  unfolding mirrorCell
   plus-above i c x l z y =
       pick-yes (decLt (i * K + c + K) (n * K)) _ _ (above i c l z)
       ∙ pick-no (ℕ-discrete ((i * K + c) % K) 0) _ _ (λ e. y (sym (digits-mod i z) ∙ e))
 
-  plus-last : (x : ℕ) → 0 < n → mirrorAt K n ((n - 1) * K + 0) x ≡ x
-  unfolding mirrorAt
-  plus-last x l =
-      let q : (n - 1) * K + 0 + K < n * K → ⊥ = omega (arith, lowest 0 l) in
-      pick-no (decLt ((n - 1) * K + 0 + K) (n * K)) _ _ q ∙ pick-yes (ℕ-discrete (((n - 1) * K + 0) % K) 0) _ _ (digits-mod (n - 1) hK)
+  pub plus-last : (c x : ℕ) → 0 < n → c ≡ 0 → mirrorCell K n ((n - 1) * K + c) x ≡ x
+  unfolding mirrorCell
+  plus-last c x l e =
+      let q : (n - 1) * K + c + K < n * K → ⊥ = omega (arith, last-row K l) in
+      pick-no (decLt ((n - 1) * K + c + K) (n * K)) _ _ q
+      ∙ pick-yes (ℕ-discrete (((n - 1) * K + c) % K) 0) _ _ (digits-mod (n - 1) (omega arith) ∙ e)
 
-  pub minus-last : (c x : ℕ) → 0 < n → c < K → c ≢ 0 → mirrorAt K n ((n - 1) * K + c) x ≡ limit - x
-  unfolding mirrorAt
+  pub minus-last : (c x : ℕ) → 0 < n → c < K → c ≢ 0 → mirrorCell K n ((n - 1) * K + c) x ≡ limit - x
+  unfolding mirrorCell
   minus-last c x l z y =
-      let q : (n - 1) * K + c + K < n * K → ⊥ = omega (arith, lowest c l) in
+      let q : (n - 1) * K + c + K < n * K → ⊥ = omega (arith, last-row K l) in
       pick-no (decLt ((n - 1) * K + c + K) (n * K)) _ _ q
       ∙ pick-no (ℕ-discrete (((n - 1) * K + c) % K) 0) _ _ (λ e. y (sym (digits-mod (n - 1) z) ∙ e))
 
@@ -109,8 +112,8 @@ record Signed (K n : ℕ) (t z : List ℕ) : Type 0 where
   plus-last : at z ((n - 1) * K) ≡ at t ((n - 1) * K)
   minus-last : (c : ℕ) → c < K → c ≢ 0 → at z ((n - 1) * K + c) + at t ((n - 1) * K + c) ≡ limit
 
-signed-sym : (K n : ℕ) (t z : List ℕ) → Signed K n t z → Signed K n z t
-signed-sym K n t z h =
+signed-sym : {K n : ℕ} {t z : List ℕ} → Signed K n t z → Signed K n z t
+signed-sym h =
     record {
       minus-above = λ i l. omega (arith, h .minus-above i l);
       plus-above = λ i c l y q. sym (h .plus-above i c l y q);
@@ -118,27 +121,31 @@ signed-sym K n t z h =
       minus-last = λ c y q. omega (arith, h .minus-last c y q);
     }
 
-signed-mirror : (K n : ℕ) (t : List ℕ) → 0 < K → 0 < n → length t ≡ n * K → ((i : ℕ) → at t i ≤ limit) → Signed K n t (mirror K n t)
-signed-mirror K n t hK hn hl hm =
+signed-mirror : {K n : ℕ} {t : List ℕ} → Bounded K n t → Signed K n t (mirror K n t)
+signed-mirror {K} {n} {t} h =
+    let hK = h .frame .small .wide in
+    let hn = h .frame .small .high in
+    let s = h .frame .size in
+    let below : n - 1 < n = omega arith in
     record {
       minus-above = λ i l.
           let e : i * K + 0 ≡ i * K = omega arith in
           let a = at-mirror K n t (i * K + 0) (omega (arith, above K n hK i 0 l hK)) in
-          let b = minus-above K n hK i (at t (i * K + 0)) l in
-          let g : at (mirror K n t) (i * K) ≡ limit - at t (i * K) = rw e at (a ∙ b) in
-          omega (arith, hm (i * K));
+          let b : at (mirror K n t) (i * K) ≡ limit - at t (i * K) = rw e at (a ∙ minus-above K n hK i (at t (i * K + 0)) l) in
+          omega (arith, h .most (i * K));
       plus-above = λ i c l y q. at-mirror K n t (i * K + c) (omega (arith, above K n hK i c l y)) ∙ plus-above K n hK i c (at t (i * K + c)) l y q;
       plus-last =
           let e : (n - 1) * K + 0 ≡ (n - 1) * K = omega arith in
-          let a = at-mirror K n t ((n - 1) * K + 0) (omega (arith, digits-lt (let m : n - 1 < n = omega arith in m) hK)) in
-          let b = plus-last K n hK (at t ((n - 1) * K + 0)) hn in
-          rw e at (a ∙ b);
+          let a = at-mirror K n t ((n - 1) * K + 0) (omega (arith, digits-lt below hK)) in
+          rw e at (a ∙ plus-last K n hK 0 (at t ((n - 1) * K + 0)) hn refl);
       minus-last = λ c y q.
-          let a = at-mirror K n t ((n - 1) * K + c) (omega (arith, digits-lt (let m : n - 1 < n = omega arith in m) y)) in
-          let b = minus-last K n hK c (at t ((n - 1) * K + c)) hn y q in
-          let g = a ∙ b in
-          omega (arith, hm ((n - 1) * K + c));
+          let a = at-mirror K n t ((n - 1) * K + c) (omega (arith, digits-lt below y)) in
+          let b = a ∙ minus-last K n hK c (at t ((n - 1) * K + c)) hn y q in
+          omega (arith, h .most ((n - 1) * K + c));
     }
+
+next-place : (b k : ℕ) → b + 1 + k * 1 ≡ b + (k + 1)
+next-place b k = omega arith
 
 -- the sums of the lines of a table that is even by its signs
 record Totals (K n : ℕ) (z : List ℕ) : Type 0 where
@@ -147,25 +154,37 @@ record Totals (K n : ℕ) (z : List ℕ) : Type 0 where
   zeroth : sum z 0 K n ≡ (n - 1) * limit
   col : (j : ℕ) → j < K → j ≢ 0 → sum z j K n ≡ limit
 
-module _ (K n : ℕ) (t z : List ℕ) (hK : 0 < K) (hn : 0 < n) (h : Signed K n t z) where
+module _ {g : Grid} {t z : List ℕ} (shape : Shape g) (h : Signed (g .columns) (g .rows) t z) where
+  abbrev K : ℕ
+  K = g .columns
+
+  abbrev n : ℕ
+  n = g .rows
+
+  hK : 0 < K
+  hK = shape .wide
+
+  hn : 0 < n
+  hn = shape .high
+
   row-above : (i : ℕ) → i + 1 < n → sum z (i * K) 1 K + at t (i * K) ≡ limit + sum t (i * K + 1) 1 (K - 1)
   row-above i l =
-      let e : K ≡ suc (K - 1) = omega arith in
-      let a : sum z (i * K) 1 K ≡ at z (i * K) + sum z (i * K + 1) 1 (K - 1) = ap (sum z (i * K) 1) e ∙ sum-head z (i * K) 1 (K - 1) in
-      let b = sum-same t z (i * K + 1) 1 (K - 1) (λ k m. let g : i * K + 1 + k * 1 ≡ i * K + (k + 1) = omega arith in rw g (h .plus-above i (k + 1) l (omega arith) (omega arith))) in
+      let e : K ≡ suc (K - 1) = omega (arith, hK) in
+      let a = ap (sum z (i * K) 1) e ∙ sum-head z (i * K) 1 (K - 1) in
+      let b = sum-same t z (i * K + 1) 1 (K - 1) (λ k m. rw (next-place (i * K) k) (h .plus-above i (k + 1) l (omega arith) (omega arith))) in
       omega (arith, h .minus-above i l)
 
   row-last : sum z ((n - 1) * K) 1 K + sum t ((n - 1) * K + 1) 1 (K - 1) ≡ at t ((n - 1) * K) + (K - 1) * limit
   row-last =
-      let e : K ≡ suc (K - 1) = omega arith in
-      let a : sum z ((n - 1) * K) 1 K ≡ at z ((n - 1) * K) + sum z ((n - 1) * K + 1) 1 (K - 1) = ap (sum z ((n - 1) * K) 1) e ∙ sum-head z ((n - 1) * K) 1 (K - 1) in
-      let b = sum-mirror t z ((n - 1) * K + 1) 1 (K - 1) (λ k m. let g : (n - 1) * K + 1 + k * 1 ≡ (n - 1) * K + (k + 1) = omega arith in rw g (h .minus-last (k + 1) (omega arith) (omega arith))) in
+      let e : K ≡ suc (K - 1) = omega (arith, hK) in
+      let a = ap (sum z ((n - 1) * K) 1) e ∙ sum-head z ((n - 1) * K) 1 (K - 1) in
+      let b = sum-mirror t z ((n - 1) * K + 1) 1 (K - 1) (λ k m. rw (next-place ((n - 1) * K) k) (h .minus-last (k + 1) (omega arith) (omega arith))) in
       omega (arith, h .plus-last)
 
   col-zero : sum z 0 K n + sum t 0 K (n - 1) ≡ (n - 1) * limit + at t ((n - 1) * K + 0)
   unfolding sum
   col-zero =
-      let e : n ≡ suc (n - 1) = omega arith in
+      let e : n ≡ suc (n - 1) = omega (arith, hn) in
       let a : sum z 0 K n ≡ sum z 0 K (n - 1) + at z (0 + (n - 1) * K) = ap (sum z 0 K) e in
       let b = sum-mirror t z 0 K (n - 1) (λ k m. rw zero-add (h .minus-above k (omega arith))) in
       let g : at z (0 + (n - 1) * K) ≡ at t ((n - 1) * K + 0) = rw (zero-add, add-zero) (h .plus-last) in
@@ -174,13 +193,13 @@ module _ (K n : ℕ) (t z : List ℕ) (hK : 0 < K) (hn : 0 < n) (h : Signed K n 
   col-other : (j : ℕ) → j < K → j ≢ 0 → sum z j K n + at t ((n - 1) * K + j) ≡ sum t j K (n - 1) + limit
   unfolding sum
   col-other j l q =
-      let e : n ≡ suc (n - 1) = omega arith in
+      let e : n ≡ suc (n - 1) = omega (arith, hn) in
       let a : sum z j K n ≡ sum z j K (n - 1) + at z (j + (n - 1) * K) = ap (sum z j K) e in
       let b = sum-same t z j K (n - 1) (λ k m. rw (add-comm j (k * K)) (h .plus-above k j (omega arith) l q)) in
       let g : at z (j + (n - 1) * K) + at t ((n - 1) * K + j) ≡ limit = rw (add-comm j ((n - 1) * K)) (h .minus-last j l q) in
       omega arith
 
-  sums-totals : Sums K n t → Totals K n z
+  sums-totals : Sums g t → Totals K n z
   sums-totals s =
       record {
         row = λ i l. omega (arith, row-above i l, s .rows i (omega arith));
@@ -189,7 +208,7 @@ module _ (K n : ℕ) (t z : List ℕ) (hK : 0 < K) (hn : 0 < n) (h : Signed K n 
         col = λ j l q. omega (arith, col-other j l q, s .columns j l);
       }
 
-  totals-sums : Totals K n z → Sums K n t
+  totals-sums : Totals K n z → Sums g t
   totals-sums s =
       record {
         rows = λ i l.
@@ -209,8 +228,8 @@ whole-mul W (suc m) x h =
     rw e (add-mod (m * x) x W ∙ rw (whole-mul W m x h, h, zero-add) (zero-mod W))
 
 -- totals are whole
-totals-even : (W K n : ℕ) (z : List ℕ) → Whole W limit → length z ≡ n * K → Totals K n z → Even W K n z
-totals-even W K n z w l s =
+totals-even : {W K n : ℕ} {z : List ℕ} → Whole W limit → length z ≡ n * K → Totals K n z → Even W K n z
+totals-even {W} {K} {n} w l s =
     record {
       size = l;
       rows = λ i m.
@@ -223,27 +242,30 @@ totals-even W K n z w l s =
           (λ e. rw (s .col j m e) w);
     }
 
-kept-totals : (W K n : ℕ) (z z' : List ℕ) → 0 < K → Kept W K n z z' → Totals K n z → Totals K n z'
-kept-totals W K n z z' hK k s =
+kept-totals : {g : Grid} {z z' : List ℕ} → 0 < g .columns → Kept g z z' → Totals (g .columns) (g .rows) z → Totals (g .columns) (g .rows) z'
+kept-totals {g} hK k s =
     record {
       row = λ i l. k .rows i ∙ s .row i l;
-      last = k .rows (n - 1) ∙ s .last;
+      last = k .rows (g .rows - 1) ∙ s .last;
       zeroth = k .columns 0 hK ∙ s .zeroth;
       col = λ j l q. k .columns j l ∙ s .col j l q;
     }
 
 -- complements
-pub whole-comp : (W M y : ℕ) → Whole W M → Whole W y → y ≤ M → Whole W (M - y)
-whole-comp W M y a b l =
+pub whole-comp : (W : ℕ) {M y : ℕ} → Whole W M → Whole W y → y ≤ M → Whole W (M - y)
+whole-comp W {M} {y} a b l =
     let e : M ≡ M - y + y = omega arith in
     let g : M % W ≡ ((M - y) % W + y % W) % W = ap (λ (k : ℕ). k % W) e ∙ add-mod (M - y) y W in
     let g' : M % W ≡ (M - y) % W = rw (b, add-zero, mod-mod) at g in
     sym g' ∙ a
 
-within-comp : (W M x y : ℕ) → 0 < W → Whole W M → x ≤ M → y ≤ M → Within W x y → Within W (M - x) (M - y)
-within-comp W M x y h w lx ly a =
+whole-back : (W : ℕ) {M x : ℕ} → Whole W M → x ≤ M → Whole W (M - x) → Whole W x
+whole-back W {M} {x} w l r = let e : M - (M - x) ≡ x = omega arith in rw e at (whole-comp W w r (omega arith))
+
+within-comp : {W M x y : ℕ} → 0 < W → Whole W M → x ≤ M → y ≤ M → Within W x y → Within W (M - x) (M - y)
+within-comp {W} {M} {x} {y} h w lx ly a =
     by-dec (whole? W x)
-    (λ v. rw (a .kept v) (within-refl W (M - x) h))
+    (λ v. rw (a .kept v) (within-refl h))
     (λ v.
     let dx = div-add-mod' x W in
     let dm = div-add-mod' M W in
@@ -256,14 +278,23 @@ within-comp W M x y h w lx ly a =
     let p' : M ≡ x / W * W + k * W + W = omega arith in
     let g : (M - x) / W ≡ k = div-eq-of-lt-le W (omega arith) (omega arith) in
     let g' : (M - x) / W * W ≡ k * W = ap (λ (i : ℕ). i * W) g in
-    record {
-      low = omega (arith, a .high);
-      high = omega (arith, a .low);
-      kept = λ r. absurd (v (let b = whole-comp W M (M - x) w r (omega arith) in let e' : M - (M - x) ≡ x = omega arith in rw e' at b));
-    })
+    record { low = omega (arith, a .high); high = omega (arith, a .low); kept = λ r. absurd (v (whole-back W w lx r)) })
 
-at-most : (K n : ℕ) (t : List ℕ) → ((i : ℕ) → at t i ≤ limit) → (i : ℕ) → at (mirror K n t) i ≤ limit
-at-most K n t h i =
+-- no cell of a good table is above the limit, nor what is read past its end; nor in the mirror
+good-most : {g : Grid} {t : List ℕ} → Good g t → (i : ℕ) → at t i ≤ limit
+good-most {t = t} h i =
+    by-dec (decLt i (length t))
+    (λ l. h .most i (omega (arith, h .size)))
+    (λ l. let a = List·getD-eq-default t 0 {n = i} (omega arith) in omega arith)
+
+pub good-bounded : {g : Grid} {t : List ℕ} → Good g t → Bounded (g .columns) (g .rows) t
+good-bounded h = record { frame = record { small = small-of (h .shape); size = h .size }; most = good-most h }
+
+pub table-bounded : {g : Grid} {t : List ℕ} → Table g t → Bounded (g .columns) (g .rows) t
+table-bounded h = record { frame = record { small = small-of (h .shape); size = h .even .size }; most = h .most }
+
+mirror-most : (K n : ℕ) (t : List ℕ) → ((i : ℕ) → at t i ≤ limit) → (i : ℕ) → at (mirror K n t) i ≤ limit
+mirror-most K n t h i =
     by-dec (decLt i (length t))
     (λ l.
     let a = at-mirror K n t i l in
@@ -272,90 +303,81 @@ at-most K n t h i =
     let a = List·getD-eq-default (mirror K n t) 0 {n = i} (omega (arith, length-mirror K n t)) in
     omega arith)
 
--- no cell of a good table is above the limit, nor what is read past its end
-pub good-most : (W K n : ℕ) (t : List ℕ) → Good W K n t → (i : ℕ) → at t i ≤ limit
-good-most W K n t h i =
-    by-dec (decLt i (length t))
-    (λ l. h .most i (omega (arith, h .size)))
-    (λ l. let a = List·getD-eq-default t 0 {n = i} (omega arith) in omega arith)
-
-pub good-table : (W K n : ℕ) (t : List ℕ) → Good W K n t → Table W K n (mirror K n t)
-good-table W K n t h =
-    record {
-      shape = h .shape;
-      even =
-          totals-even W K n (mirror K n t) (h .shape .whole) (length-mirror K n t ∙ h .size)
-          (sums-totals K n t (mirror K n t) (h .shape .wide) (h .shape .high) (signed-mirror K n t (h .shape .wide) (h .shape .high) (h .size) (good-most W K n t h)) (h .sums));
-      most = at-most K n t (good-most W K n t h);
-    }
-
-pub mirror-mirror : (K n : ℕ) (t : List ℕ) → ((i : ℕ) → at t i ≤ limit) → mirror K n (mirror K n t) ≡ t
-mirror-mirror K n t h =
-    ext-getD 0 (mirror K n (mirror K n t)) t (length-mirror K n (mirror K n t) ∙ length-mirror K n t)
-    (λ i l.
+pub mirror-mirror : {K n : ℕ} {t : List ℕ} → Bounded K n t → mirror K n (mirror K n t) ≡ t
+mirror-mirror {K} {n} {t} h =
     let a = length-mirror K n (mirror K n t) in
     let b = length-mirror K n t in
+    ext-getD 0 (mirror K n (mirror K n t)) t (a ∙ b)
+    (λ i l.
     let p = at-mirror K n (mirror K n t) i (omega arith) in
     let q = at-mirror K n t i (omega arith) in
     p
     ∙ ⊎-elim
-    (λ f. f (at (mirror K n t) i) ∙ (let e = q ∙ f (at t i) in omega (arith, h i)))
+    (λ f. f (at (mirror K n t) i) ∙ (let e = q ∙ f (at t i) in omega (arith, h .most i)))
     (λ f. f (at (mirror K n t) i) ∙ q ∙ f (at t i))
     (mirror-cases K n i))
 
--- what is kept of the complemented table, said of the table
-pub record Held (W K n : ℕ) (t s : List ℕ) : Type 0 where
-  pub good : Good W K n s
-  pub within : (i : ℕ) → i < n * K → Within W (at t i) (at s i)
+-- a good table, mirrored
+module _ {g : Grid} {t : List ℕ} (h : Good g t) where
+  good-totals : Totals (g .columns) (g .rows) (mirror (g .columns) (g .rows) t)
+  good-totals = sums-totals (h .shape) (signed-mirror (good-bounded h)) (h .sums)
 
-pub held : (W K n : ℕ) (t s : List ℕ) → Good W K n t → Kept W K n (mirror K n t) s → Held W K n t (mirror K n s)
-held W K n t s h k =
-    let z = mirror K n t in
-    let tz = good-table W K n t h in
-    let ts = kept-table W K n z s tz k in
-    let sg = signed-mirror K n t (h .shape .wide) (h .shape .high) (h .size) (good-most W K n t h) in
-    let ls : length s ≡ n * K = ts .even .size in
-    let sg' = signed-mirror K n s (h .shape .wide) (h .shape .high) ls (ts .most) in
-    record {
-      good =
-          record {
-            shape = h .shape;
-            size = length-mirror K n s ∙ ls;
-            most = λ i l. at-most K n s (ts .most) i;
-            sums =
-                totals-sums K n (mirror K n s) s (h .shape .wide) (h .shape .high) (signed-sym K n s (mirror K n s) sg')
-                (kept-totals W K n z s (h .shape .wide) k (sums-totals K n t z (h .shape .wide) (h .shape .high) sg (h .sums)));
-          };
-      within = λ i l.
-          let a = at-mirror K n s i (omega arith) in
-          let b = at-mirror K n t i (omega (arith, h .size)) in
-          let v = k .within i in
-          ⊎-elim
-          (λ f.
-          let e : limit - (limit - at t i) ≡ at t i = omega (arith, good-most W K n t h i) in
-          let v' : Within W (limit - at t i) (at s i) = rw (b ∙ f (at t i)) at v in
-          let v'' : Within W (limit - (limit - at t i)) (limit - at s i) = within-comp W limit (limit - at t i) (at s i) (h .shape .unit) (h .shape .whole) (omega arith) (ts .most i) v' in
-          rw (a ∙ f (at s i)) (rw e at v''))
-          (λ f. rw (a ∙ f (at s i)) (rw (b ∙ f (at t i)) at v))
-          (mirror-cases K n i);
-    }
+  pub good-table : Table g (mirror (g .columns) (g .rows) t)
+  good-table =
+      record {
+        shape = h .shape;
+        even = totals-even (h .shape .whole) (length-mirror (g .columns) (g .rows) t ∙ h .size) good-totals;
+        most = mirror-most (g .columns) (g .rows) t (good-most h);
+      }
 
--- as many cells are loose as in the complemented table
-bit-comp : (W x : ℕ) → Whole W limit → x ≤ limit → looseCell W (limit - x) ≡ looseCell W x
-bit-comp W x w l =
+  -- what holds of a cell and of its complement, before and after, holds of the cell before and after
+  pub both-ways : {s : List ℕ} → Table g s → (v : ℕ) → v < area g → (P : ℕ → ℕ → Type 0) →
+      ((x y : ℕ) → x ≤ limit → y ≤ limit → P (limit - x) y → P x (limit - y)) →
+      P (at (mirror (g .columns) (g .rows) t) v) (at s v) → P (at t v) (at (mirror (g .columns) (g .rows) s) v)
+  both-ways {s} k v i P f p =
+      let a = at-mirror (g .columns) (g .rows) t v (omega (arith, h .size)) in
+      let b = at-mirror (g .columns) (g .rows) s v (omega (arith, k .even .size)) in
+      ⊎-elim
+      (λ m. rw (b ∙ m (at s v)) (f (at t v) (at s v) (good-most h v) (k .most v) (rw (a ∙ m (at t v)) at p)))
+      (λ m. rw (b ∙ m (at s v)) (rw (a ∙ m (at t v)) at p))
+      (mirror-cases (g .columns) (g .rows) v)
+
+  -- what is kept of the mirror, said of the table
+  module _ {s : List ℕ} (k : Kept g (mirror (g .columns) (g .rows) t) s) where
+    pub kept-good : Good g (mirror (g .columns) (g .rows) s)
+    kept-good =
+        let ts = kept-table good-table k in
+        record {
+          shape = h .shape;
+          size = length-mirror (g .columns) (g .rows) s ∙ ts .even .size;
+          most = λ i l. mirror-most (g .columns) (g .rows) s (ts .most) i;
+          sums =
+              totals-sums (h .shape) (signed-sym (signed-mirror (table-bounded ts))) (kept-totals (h .shape .wide) k good-totals);
+        }
+
+    pub kept-within : (i : ℕ) → i < area g → Within (g .unit) (at t i) (at (mirror (g .columns) (g .rows) s) i)
+    kept-within i l =
+        both-ways (kept-table good-table k) i l (λ x y. Within (g .unit) x y)
+        (λ x y a b w.
+        let e : limit - (limit - x) ≡ x = omega arith in
+        rw e at (within-comp (h .shape .unit) (h .shape .whole) (omega arith) b w))
+        (k .within i)
+
+-- as many cells are loose as in the mirror
+loose-comp : (W x : ℕ) → Whole W limit → x ≤ limit → looseCell W (limit - x) ≡ looseCell W x
+loose-comp W x w l =
     by-dec (whole? W x)
-    (λ v. cell-whole W (limit - x) (whole-comp W limit x w v l) ∙ sym (cell-whole W x v))
-    (λ v.
-    cell-loose W (limit - x) (λ r. v (let b = whole-comp W limit (limit - x) w r (omega arith) in let e : limit - (limit - x) ≡ x = omega arith in rw e at b))
-    ∙ sym (cell-loose W x v))
+    (λ v. cell-whole W (limit - x) (whole-comp W w v l) ∙ sym (cell-whole W x v))
+    (λ v. cell-loose W (limit - x) (λ r. v (whole-back W w l r)) ∙ sym (cell-loose W x v))
 
 count-mirrors : (W K n j : ℕ) (t : List ℕ) → Whole W limit → ((i : ℕ) → at t i ≤ limit) → loose W (mirrors K n j t) ≡ loose W t
 unfolding mirrors loose
 count-mirrors W K n j [] w h = refl
 count-mirrors W K n j (x ∷ xs) w h =
     let r = count-mirrors W K n (suc j) xs w (λ i. h (suc i)) in
-    let b : looseCell W (mirrorAt K n j x) ≡ looseCell W x = ⊎-elim (λ f. ap (looseCell W) (f x) ∙ bit-comp W x w (h 0)) (λ f. ap (looseCell W) (f x)) (mirror-cases K n j) in
+    let b : looseCell W (mirrorCell K n j x) ≡ looseCell W x =
+    ⊎-elim (λ f. ap (looseCell W) (f x) ∙ loose-comp W x w (h 0)) (λ f. ap (looseCell W) (f x)) (mirror-cases K n j) in
     omega arith
 
-pub count-mirror : (W K n : ℕ) (t : List ℕ) → Whole W limit → ((i : ℕ) → at t i ≤ limit) → loose W (mirror K n t) ≡ loose W t
-count-mirror W K n t w h = count-mirrors W K n 0 t w h
+pub count-mirror : (W : ℕ) {K n : ℕ} {t : List ℕ} → Whole W limit → Bounded K n t → loose W (mirror K n t) ≡ loose W t
+count-mirror W {K} {n} {t} w h = count-mirrors W K n 0 t w (h .most)

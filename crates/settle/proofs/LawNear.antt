@@ -1,4 +1,5 @@
--- Laws of Within.
+-- A cell that goes up by at most its room up, and down by at most its room down, stays between the two multiples of W around it; and so does
+-- a cell that does this again and again, since a whole cell is not moved.
 use mathlib.Core.Path.{_≡_, refl, ap, _∙_}
 use mathlib.Core.Logic.{_≢_}
 use Prim.Native.Nat.{ℕ, _+_, _-_, _*_, _/_, _%_, _≤_, _<_}
@@ -9,19 +10,19 @@ use Rattle.settle.specs.Step.{whole?}
 use Rattle.settle.specs.Moves.{Within}
 use Rattle.settle.proofs.LawLine.{by-dec}
 
-pub within-refl : (W x : ℕ) → 0 < W → Within W x x
-within-refl W x h = record { low = omega (arith, div-add-mod' x W); high = omega (arith, div-add-mod' x W, mod-lt x h); kept = λ w. refl }
+pub within-refl : {W x : ℕ} → 0 < W → Within W x x
+within-refl {W} {x} h = record { low = omega (arith, div-add-mod' x W); high = omega (arith, div-add-mod' x W, mod-lt x h); kept = λ w. refl }
 
-pub within-move : (W x p m : ℕ) → 0 < W → p ≤ W - x % W → m ≤ x % W → x % W ≢ 0 → Within W x (x + p - m)
-within-move W x p m h hp hm l =
+pub within-move : {W x : ℕ} (p m : ℕ) → 0 < W → p ≤ W - x % W → m ≤ x % W → x % W ≢ 0 → Within W x (x + p - m)
+within-move {W} {x} p m h hp hm l =
     record {
       low = omega (arith, div-add-mod' x W, mod-lt x h);
       high = omega (arith, div-add-mod' x W, mod-lt x h);
       kept = λ w. absurd (l w);
     }
 
-pub within-trans : (W x y z : ℕ) → 0 < W → Within W x y → Within W y z → Within W x z
-within-trans W x y z h a b =
+pub within-trans : {W x y z : ℕ} → 0 < W → Within W x y → Within W y z → Within W x z
+within-trans {W} {x} {y} h a b =
     by-dec (whole? W y)
     (λ w.
     let e = b .kept w in
@@ -36,8 +37,8 @@ within-trans W x y z h a b =
     add-mod-whole = let e : x / W * W + W ≡ (x / W + 1) * W = omega arith in rw e (mul-mod-left (x / W + 1) W)
 
 -- under a whole limit it stays
-pub within-most : (W M x y : ℕ) → 0 < W → Whole W M → x ≤ M → Within W x y → y ≤ M
-within-most W M x y h w l a =
+pub within-most : {W M x y : ℕ} → 0 < W → Whole W M → x ≤ M → Within W x y → y ≤ M
+within-most {W} {M} {x} h w l a =
     by-dec (whole? W x)
     (λ v. omega (arith, a .kept v))
     (λ v.
@@ -58,7 +59,7 @@ hit-down W x =
     let e : x - x % W ≡ x / W * W = omega (arith, div-add-mod' x W) in
     rw e (mul-mod-left (x / W) W)
 
-pub move-most : (W M x p : ℕ) → 0 < W → Whole W M → x ≤ M → p ≤ W - x % W → x % W ≢ 0 → x + p ≤ M
-move-most W M x p h w l a z =
-    let b = within-most W M x (x + p - 0) h w l (within-move W x p 0 h a (omega arith) z) in
+pub move-most : {W M x p : ℕ} → 0 < W → Whole W M → x ≤ M → p ≤ W - x % W → x % W ≢ 0 → x + p ≤ M
+move-most {p = p} h w l a z =
+    let b = within-most h w l (within-move p 0 h a (omega arith) z) in
     omega arith

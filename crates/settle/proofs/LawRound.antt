@@ -1,4 +1,5 @@
--- Laws of a whole round: sums, bounds, and the number of loose cells.
+-- A round is moved pair by pair, by induction on its list: a pair leaves the other rows alone, so what is known of the rest of the round still
+-- stands. What a pair adds to one column the next pair takes off it; a round that ends where it began keeps every sum.
 use mathlib.Core.Path.{_≡_, refl, sym, _∙_}
 use mathlib.Core.Logic.{_≢_, _⊎_, inl, inr, ⊎-elim}
 use mathlib.Core.List.{List, [], _∷_}
@@ -10,22 +11,22 @@ use native.Mathlib.Omega.{arith}
 use lib.Arith.{digits-div}
 use lib.ListN.{length, set, length-set}
 use Rattle.settle.specs.Shown.{at, Whole, sum}
-use Rattle.settle.specs.Step.{whole?, twin, turn, shift, end, looseCell, loose, room, least, part}
+use Rattle.settle.specs.Step.{whole?, twin, movePair, moveBy, endColumn, looseCell, loose, room, least, part}
 use Rattle.settle.specs.Moves.{Within}
 use Rattle.settle.specs.Inner.{Hop, Move, Fit, Apart, Trail}
 use Rattle.settle.proofs.LawLine.{pick-yes, pick-no, by-dec}
 use Rattle.settle.proofs.LawNear.{within-refl, within-trans, hit-up, hit-down}
-use Rattle.settle.proofs.LawTurn.{tag, turn-length, turn-row, turn-col, turn-other, turn-within}
+use Rattle.settle.proofs.LawPair.{tag, twin-at, pair-length, pair-row, pair-column, pair-other, pair-within}
 
 -- some cell of the round becomes whole
-abbrev pub Hit : ℕ → ℕ → ℕ → ℕ → List ℕ → ℕ → List ℕ → Type 0
+abbrev pub Hit : (W K p m : ℕ) (t : List ℕ) (x : ℕ) (us : List ℕ) → Type 0
 Hit W K p m t x [] = ⊥
 Hit W K p m t x (u ∷ us) = Whole W (at t u + p - m) ⊎ (Whole W (at t (twin K x u) + m - p) ⊎ Hit W K p m t (u % K) us)
 
 -- what is known of a path stands where its rows are as they were
 module _ (W K p m : ℕ) (t t' : List ℕ) (r : ℕ) (el : length t' ≡ length t) (e : (i : ℕ) → i / K ≢ r → at t' i ≡ at t i) where
-  move-carry : (x u : ℕ) → u / K ≢ r → Move W K p m t x u → Move W K p m t' x u
-  move-carry x u z h =
+  pair-carry : (x u : ℕ) → u / K ≢ r → Move W K p m t x u → Move W K p m t' x u
+  pair-carry x u z h =
       let a = e u z in
       let b = e (twin K x u) (λ y. z (sym (digits-div (u / K) (h .hop .column)) ∙ y)) in
       record {
@@ -46,7 +47,7 @@ module _ (W K p m : ℕ) (t t' : List ℕ) (r : ℕ) (el : length t' ≡ length 
 
   fit-carry : (x : ℕ) (us : List ℕ) → Apart K r us → Fit W K p m t x us → Fit W K p m t' x us
   fit-carry x [] z h = tt
-  fit-carry x (u ∷ us) z h = (move-carry x u (z .0) (h .0), h .1, fit-carry (u % K) us (z .1) (h .2))
+  fit-carry x (u ∷ us) z h = (pair-carry x u (z .0) (h .0), h .1, fit-carry (u % K) us (z .1) (h .2))
 
   hit-carry : (x : ℕ) (us : List ℕ) → Apart K r us → Fit W K p m t x us → Hit W K p m t x us → Hit W K p m t' x us
   hit-carry x [] z f h = h
@@ -71,96 +72,99 @@ cell-loose W x w = pick-no {A = ℕ} (whole? W x) 0 1 w
 cell-most : (W x : ℕ) → looseCell W x ≤ 1
 cell-most W x = by-dec (whole? W x) (λ w. omega (arith, cell-whole W x w)) (λ w. omega (arith, cell-loose W x w))
 
-turn-count : (W K p m : ℕ) (t : List ℕ) (x u : ℕ) → 0 < W → 0 < K → Move W K p m t x u →
-    loose W (turn K p m x u t) + 2 ≡ loose W t + looseCell W (at t u + p - m) + looseCell W (at t (twin K x u) + m - p)
-turn-count W K p m t x u hW hK h =
+pair-count : {W K p m : ℕ} {t : List ℕ} {x u : ℕ} → 0 < W → 0 < K → Move W K p m t x u →
+    loose W (movePair K p m x u t) + 2 ≡ loose W t + looseCell W (at t u + p - m) + looseCell W (at t (twin K x u) + m - p)
+pair-count {W} {K} {p} {m} {t} {x} {u} hW hK h =
     let d = twin K x u in
     let t1 = set t u (at t u + p - m) in
     let a = count-set W t u (at t u + p - m) (h .hop .inside) in
     let b = count-set W t1 d (at t d + m - p) (simp length-set (h .hop .twin-inside)) in
-    let b' = rw (Rattle.settle.proofs.LawTurn.twin-at W K p m t x u hW hK h) at b in
+    let b' = rw (twin-at hW hK h) at b in
     let y = cell-loose W (at t u) (h .hop .loose) in
     let z = cell-loose W (at t d) (h .hop .twin-loose) in
     omega arith
 
-module _ (W K p m : ℕ) (hW : 0 < W) (hK : 0 < K) where
-  -- the rest of a round after its first turn
-  pub rest : (x u : ℕ) (us : List ℕ) (t : List ℕ) → Fit W K p m t x (u ∷ us) → Fit W K p m (turn K p m x u t) (u % K) us
+module _ {W K : ℕ} (p m : ℕ) (hW : 0 < W) (hK : 0 < K) where
+  -- the rest of a round after its first pair is moved
+  pub rest : (x u : ℕ) (us : List ℕ) (t : List ℕ) → Fit W K p m t x (u ∷ us) → Fit W K p m (movePair K p m x u t) (u % K) us
   rest x u us t h =
-      fit-carry W K p m t (turn K p m x u t) (u / K) (turn-length W K p m t x u hW hK (h .0)) (turn-other W K p m t x u hW hK (h .0)) (u % K) us (h .1) (h .2)
+      fit-carry W K p m t (movePair K p m x u t) (u / K) (pair-length hW hK (h .0)) (pair-other hW hK (h .0)) (u % K) us (h .1) (h .2)
 
-  pub shift-length : (x : ℕ) (us t : List ℕ) → Fit W K p m t x us → length (shift K p m x us t) ≡ length t
-  unfolding shift
-  shift-length x [] t h = refl
-  shift-length x (u ∷ us) t h = shift-length (u % K) us (turn K p m x u t) (rest x u us t h) ∙ turn-length W K p m t x u hW hK (h .0)
+  pub move-length : (x : ℕ) (us t : List ℕ) → Fit W K p m t x us → length (moveBy K p m x us t) ≡ length t
+  unfolding moveBy
+  move-length x [] t h = refl
+  move-length x (u ∷ us) t h = move-length (u % K) us (movePair K p m x u t) (rest x u us t h) ∙ pair-length hW hK (h .0)
 
-  pub shift-row : (x : ℕ) (us t : List ℕ) → Fit W K p m t x us → (r : ℕ) → sum (shift K p m x us t) (r * K) 1 K ≡ sum t (r * K) 1 K
-  unfolding shift
-  shift-row x [] t h r = refl
-  shift-row x (u ∷ us) t h r = shift-row (u % K) us (turn K p m x u t) (rest x u us t h) r ∙ turn-row W K p m t x u hW hK (h .0) r
+  pub move-row : (x : ℕ) (us t : List ℕ) → Fit W K p m t x us → (r : ℕ) → sum (moveBy K p m x us t) (r * K) 1 K ≡ sum t (r * K) 1 K
+  unfolding moveBy
+  move-row x [] t h r = refl
+  move-row x (u ∷ us) t h r = move-row (u % K) us (movePair K p m x u t) (rest x u us t h) r ∙ pair-row hW hK (h .0) r
 
-  shift-col : (x : ℕ) (us t : List ℕ) → Fit W K p m t x us → (n j : ℕ) → length t ≡ n * K → j < K →
-      sum (shift K p m x us t) j K n + tag (end K x us) j m + tag x j p ≡ sum t j K n + tag (end K x us) j p + tag x j m
-  unfolding shift end
-  shift-col x [] t h n j hl hj = omega arith
-  shift-col x (u ∷ us) t h n j hl hj =
-      let a = shift-col (u % K) us (turn K p m x u t) (rest x u us t h) n j (turn-length W K p m t x u hW hK (h .0) ∙ hl) hj in
-      let b = turn-col W K p m t x u hW hK (h .0) n j hl hj in
+  move-column : (x : ℕ) (us t : List ℕ) → Fit W K p m t x us → (n j : ℕ) → length t ≡ n * K → j < K →
+      sum (moveBy K p m x us t) j K n + tag (endColumn K x us) j m + tag x j p ≡ sum t j K n + tag (endColumn K x us) j p + tag x j m
+  unfolding moveBy endColumn
+  move-column x [] t h n j hl hj = omega arith
+  move-column x (u ∷ us) t h n j hl hj =
+      let a = move-column (u % K) us (movePair K p m x u t) (rest x u us t h) n j (pair-length hW hK (h .0) ∙ hl) hj in
+      let b = pair-column hW hK (h .0) n j hl hj in
       omega arith
 
   -- a round that closes keeps every column's sum
-  pub round-col : (x : ℕ) (us t : List ℕ) → Fit W K p m t x us → end K x us ≡ x → (n j : ℕ) → length t ≡ n * K → j < K →
-      sum (shift K p m x us t) j K n ≡ sum t j K n
-  round-col x us t h e n j hl hj =
-      let a = shift-col x us t h n j hl hj in
+  pub round-column : (x : ℕ) (us t : List ℕ) → Fit W K p m t x us → endColumn K x us ≡ x → (n j : ℕ) → length t ≡ n * K → j < K →
+      sum (moveBy K p m x us t) j K n ≡ sum t j K n
+  round-column x us t h e n j hl hj =
+      let a = move-column x us t h n j hl hj in
       let b = rw e at a in
       omega arith
 
-  pub shift-within : (x : ℕ) (us t : List ℕ) → Fit W K p m t x us → (i : ℕ) → Within W (at t i) (at (shift K p m x us t) i)
-  unfolding shift
-  shift-within x [] t h i = within-refl W (at t i) hW
-  shift-within x (u ∷ us) t h i =
-      within-trans W (at t i) (at (turn K p m x u t) i) _ hW (turn-within W K p m t x u hW hK (h .0) i)
-      (shift-within (u % K) us (turn K p m x u t) (rest x u us t h) i)
+  pub move-within : (x : ℕ) (us t : List ℕ) → Fit W K p m t x us → (i : ℕ) → Within W (at t i) (at (moveBy K p m x us t) i)
+  unfolding moveBy
+  move-within x [] t h i = within-refl hW
+  move-within x (u ∷ us) t h i =
+      within-trans hW (pair-within hW hK (h .0) i)
+      (move-within (u % K) us (movePair K p m x u t) (rest x u us t h) i)
 
-  shift-count : (x : ℕ) (us t : List ℕ) → Fit W K p m t x us → loose W (shift K p m x us t) ≤ loose W t
-  unfolding shift
-  shift-count x [] t h = omega arith
-  shift-count x (u ∷ us) t h =
-      let a = shift-count (u % K) us (turn K p m x u t) (rest x u us t h) in
-      let b = turn-count W K p m t x u hW hK (h .0) in
+  move-count : (x : ℕ) (us t : List ℕ) → Fit W K p m t x us → loose W (moveBy K p m x us t) ≤ loose W t
+  unfolding moveBy
+  move-count x [] t h = omega arith
+  move-count x (u ∷ us) t h =
+      let a = move-count (u % K) us (movePair K p m x u t) (rest x u us t h) in
+      let b = pair-count hW hK (h .0) in
       omega (arith, cell-most W (at t u + p - m), cell-most W (at t (twin K x u) + m - p))
 
   -- where a cell is hit, fewer are loose
-  pub round-count : (x : ℕ) (us t : List ℕ) → Fit W K p m t x us → Hit W K p m t x us → loose W (shift K p m x us t) < loose W t
-  unfolding shift
+  pub round-count : (x : ℕ) (us t : List ℕ) → Fit W K p m t x us → Hit W K p m t x us → loose W (moveBy K p m x us t) < loose W t
+  unfolding moveBy
   round-count x [] t h g = absurd g
   round-count x (u ∷ us) t h g =
-      let a = shift-count (u % K) us (turn K p m x u t) (rest x u us t h) in
-      let b = turn-count W K p m t x u hW hK (h .0) in
+      let a = move-count (u % K) us (movePair K p m x u t) (rest x u us t h) in
+      let b = pair-count hW hK (h .0) in
       ⊎-elim
       (λ w. omega (arith, cell-whole W (at t u + p - m) w, cell-most W (at t (twin K x u) + m - p)))
       (λ g'.
       ⊎-elim
       (λ w. omega (arith, cell-whole W (at t (twin K x u) + m - p) w, cell-most W (at t u + p - m)))
       (λ g''.
-      let c = round-count (u % K) us (turn K p m x u t) (rest x u us t h) (hit-carry W K p m t (turn K p m x u t) (u / K) (turn-length W K p m t x u hW hK (h .0)) (turn-other W K p m t x u hW hK (h .0)) (u % K) us (h .1) (h .2) g'') in
+      let t' = movePair K p m x u t in
+      let hit = hit-carry W K p m t t' (u / K) (pair-length hW hK (h .0)) (pair-other hW hK (h .0)) (u % K) us (h .1) (h .2) g'' in
+      let c = round-count (u % K) us t' (rest x u us t h) hit in
       omega (arith, cell-most W (at t u + p - m), cell-most W (at t (twin K x u) + m - p)))
       g')
       g
 
 -- the least room fits, and hits
-move-least : (W K : ℕ) (up : Bool) (t : List ℕ) (x u d : ℕ) → Hop W K t x u → d ≤ room up W (at t u) → d ≤ room (not up) W (at t (twin K x u)) →
+pair-least : (W K : ℕ) (up : Bool) (t : List ℕ) (x u d : ℕ) → Hop W K t x u → d ≤ room up W (at t u) →
+    d ≤ room (not up) W (at t (twin K x u)) →
     Move W K (part up d) (part (not up) d) t x u
-move-least W K true t x u d h a b = record { hop = h; up = a; down = omega arith; twin-up = omega arith; twin-down = b }
-move-least W K false t x u d h a b = record { hop = h; up = omega arith; down = a; twin-up = b; twin-down = omega arith }
+pair-least W K true t x u d h a b = record { hop = h; up = a; down = omega arith; twin-up = omega arith; twin-down = b }
+pair-least W K false t x u d h a b = record { hop = h; up = omega arith; down = a; twin-up = b; twin-down = omega arith }
 
 pub fit-least : (W K : ℕ) (up : Bool) (t : List ℕ) (x : ℕ) (us : List ℕ) (d : ℕ) → Trail W K t x us → d ≤ least W K up t x us →
     Fit W K (part up d) (part (not up) d) t x us
 unfolding least
 fit-least W K up t x [] d h l = tt
 fit-least W K up t x (u ∷ us) d h l =
-    (move-least W K up t x u d (h .0) (omega arith) (omega arith), h .1, fit-least W K up t (u % K) us d (h .3) (omega arith))
+    (pair-least W K up t x u d (h .0) (omega arith) (omega arith), h .1, fit-least W K up t (u % K) us d (h .3) (omega arith))
 
 hit-first : (W : ℕ) (up : Bool) (x d : ℕ) → 0 < W → d ≡ room up W x → Whole W (x + part up d - part (not up) d)
 hit-first W true x d h e = let y : x + d - 0 ≡ x + (W - x % W) = omega arith in rw y (hit-up W x h)

@@ -1,10 +1,10 @@
 pub mod LawLine
 pub mod LawNear
-pub mod LawTurn
+pub mod LawPair
 pub mod LawRound
 pub mod LawWalk
 pub mod LawLoop
-pub mod LawTurnOnce
+pub mod LawStepMirrored
 pub mod LawMirror
 pub mod LawCells
 pub mod LawTable
@@ -12,4 +12,6 @@ pub mod LawSteps
 pub mod LawAnswer
 pub mod LawShown
 pub mod LawOneRound
+pub mod LawOnce
+pub mod LawShutOut
 pub mod Worked

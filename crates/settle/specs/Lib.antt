@@ -1,3 +1,4 @@
+pub mod Grid
 pub mod Shown
 pub mod Table
 pub mod Step

@@ -1,10 +1,10 @@
 // What is done to every cell: copied, mirrored, divided.
-ghost use Prim.Native.Nat.{_+_, _*_, _<_, _≤_};
-ghost use Rattle.settle.specs.Inner.{Frame};
-ghost use Rattle.settle.specs.Step.{mirror as mirrored, mirrorAt, units};
-ghost use Rattle.settle.specs.Table.{limit};
+ghost use Prim.Native.Nat.{_<_};
+ghost use Rattle.settle.specs.Inner.{Bounded, Cell};
+ghost use Rattle.settle.specs.Step as spec;
 ghost use lib.ListN.{length};
 ghost use mathlib.Core.Path.{_≡_};
+use crate::LIMIT;
 
 pub(crate) fn copy(from: &[u64], t: &mut [u64])
     requires { ⌜ length (now t) ≡ length (now from) ⌝ }
@@ -19,30 +19,19 @@ pub(crate) fn copy(from: &[u64], t: &mut [u64])
 
 // The cell x at place j, in the mirror.
 fn mirror_cell(k: usize, n: usize, j: usize, x: u64) -> u64
-    requires { ⌜ 0 < k ⌝ }
-    requires { ⌜ n * k ≤ 645 ⌝ }
-    requires { ⌜ j + k ≤ 1000 ⌝ }
-    requires { ⌜ x ≤ limit ⌝ }
-    ensures { λ r. ⌜ r ≡ mirrorAt k n j x ⌝ }
+    requires { ⌜ Cell k n j x ⌝ }
+    ensures { λ r. ⌜ r ≡ spec.mirrorCell k n j x ⌝ }
 {
     if j + k < n * k {
-        if j % k == 0 {
-            16000000000000000000 - x
-        } else {
-            x
-        }
+        if j % k == 0 { LIMIT - x } else { x }
     } else {
-        if j % k == 0 {
-            x
-        } else {
-            16000000000000000000 - x
-        }
+        if j % k == 0 { x } else { LIMIT - x }
     }
 }
 
 pub(crate) fn mirror(t: &mut [u64], k: usize, n: usize)
-    requires { ⌜ Frame k n (now t) ⌝ }
-    ensures { λ _. ⌜ now (t .exit) ≡ mirrored k n (now (t .entry)) ⌝ }
+    requires { ⌜ Bounded k n (now t) ⌝ }
+    ensures { λ _. ⌜ now (t .exit) ≡ spec.mirror k n (now (t .entry)) ⌝ }
 {
     let mut i = 0;
     while i < t.len() {
@@ -54,7 +43,7 @@ pub(crate) fn mirror(t: &mut [u64], k: usize, n: usize)
 
 pub(crate) fn divide(t: &mut [u64], w: u64)
     requires { ⌜ 0 < w ⌝ }
-    ensures { λ _. ⌜ now (t .exit) ≡ units w (now (t .entry)) ⌝ }
+    ensures { λ _. ⌜ now (t .exit) ≡ spec.units w (now (t .entry)) ⌝ }
 {
     let mut i = 0;
     while i < t.len() {

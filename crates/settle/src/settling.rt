@@ -1,59 +1,67 @@
 // Steps of a mirrored table.
-ghost use Prim.Native.Nat.{_*_, _<_, _≤_};
-ghost use Rattle.settle.specs.Inner.{Table, Taken, WholeTo};
-ghost use Rattle.settle.specs.Step.{firstLoose, lifted as marked, turnOnce};
+ghost use Rattle.settle.specs.Grid.{grid};
+ghost use Rattle.settle.specs.Inner.{Small, SoughtAll, Steps, Table, Unsettled};
+ghost use Rattle.settle.specs.Step as spec;
 ghost use mathlib.Core.Path.{_≡_};
+use crate::moving::move_round;
+use crate::round::round_from;
 use crate::round::seek;
-use crate::round::walk;
-use crate::shift::turned;
 
-// The total of column 3, which goes up where a round holds it.
-pub(crate) fn lifted(k: usize, n: usize) -> usize
-    requires { ⌜ (0 < n) × (n ≤ 129) × (k ≤ 5) ⌝ }
-    ensures { λ r. ⌜ r ≡ marked k n ⌝ }
+// The total of the marked column; no cell where the table has no such column.
+fn marked_cell(k: usize, n: usize, marked: usize) -> usize
+    requires { ⌜ Small k n ⌝ }
+    ensures { λ r. ⌜ r ≡ spec.markedCell k n marked ⌝ }
 {
-    (n - 1) * k + 3
+    if marked < k {
+        (n - 1) * k + marked
+    } else {
+        n * k
+    }
 }
 
 // The first loose cell, none being before place `from`.
-fn first_loose(t: &[u64], w: u64, k: usize, n: usize, from: usize) -> usize
-    requires { ⌜ Table w k n (now t) ⌝ }
-    requires { ⌜ from ≤ n * k ⌝ }
-    requires { ⌜ WholeTo w (now t) from ⌝ }
-    ensures { λ r. ⌜ r ≡ firstLoose w k n (now (t .entry)) ⌝ }
+fn first_loose(t: &[u64], w: u64, from: usize) -> usize
+    requires { ⌜ SoughtAll w (now t) from ⌝ }
+    ensures { λ r. ⌜ r ≡ spec.firstLoose w (now (t .entry)) ⌝ }
 {
-    let all = n * k;
+    let all = t.len();
     seek(t, w, 0, 1, all, from, all)
 }
 
 // One step, from the first loose cell i.
-fn turn_at(t: &mut [u64], w: u64, k: usize, n: usize, mark: usize, i: usize)
-    requires { ⌜ Table w k n (now t) ⌝ }
-    requires { ⌜ i ≡ firstLoose w k n (now t) ⌝ }
-    requires { ⌜ i < n * k ⌝ }
-    ensures { λ _. ⌜ now (t .exit) ≡ turnOnce w k n mark (now (t .entry)) ⌝ }
+fn step_mirrored(t: &mut [u64], w: u64, k: usize, n: usize, marked: usize, i: usize)
+    requires { ⌜ Unsettled (grid w k n marked) (now t) i ⌝ }
+    ensures { λ _. ⌜ now (t .exit) ≡ spec.stepMirrored (grid w k n marked) (now (t .entry)) ⌝ }
 {
-    let g = walk(t, w, k, n, i);
+    let g = round_from(t, w, k, n, i);
     let us = g.us;
     let at = g.at;
     let end = g.end;
-    turned(t, w, k, mark, &us[at..end]);
+    let mark = marked_cell(k, n, marked);
+    move_round(t, w, k, marked == 0, mark, &us[at..end]);
 }
 
 // At most so many steps; how many changed something. What is above the first loose cell stays whole, so no step searches it again.
-pub(crate) fn settle(t: &mut [u64], w: u64, k: usize, n: usize, mark: usize, times: usize) -> usize
-    requires { ⌜ Table w k n (now t) ⌝ }
-    ensures { λ r. ⌜ Taken times w k n mark (now (t .entry)) (now (t .exit)) r ⌝ }
+pub(crate) fn settle(
+    t: &mut [u64],
+    w: u64,
+    k: usize,
+    n: usize,
+    marked: usize,
+    times: usize,
+) -> usize
+    requires { ⌜ Table (grid w k n marked) (now t) ⌝ }
+    ensures { λ r. ⌜ Steps (spec.stepMirrored (grid w k n marked)) w times (now (t .entry)) (now (t .exit)) r ⌝ }
 {
     let mut steps = 0;
-    let mut i = first_loose(t, w, k, n, 0);
+    let mut i = first_loose(t, w, 0);
     while steps < times {
-        if n * k <= i {
+        if t.len() <= i {
             return steps;
         }
-        turn_at(t, w, k, n, mark, i);
+        step_mirrored(t, w, k, n, marked, i);
         steps += 1;
-        i = first_loose(t, w, k, n, i);
+        i = first_loose(t, w, i);
     }
     steps
 }

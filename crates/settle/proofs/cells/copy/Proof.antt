@@ -1,3 +1,4 @@
+-- Before place i the cells are those of `from`; at the end that is all of them.
 use mathlib.Core.Path.{refl}
 use Prim.Native.Nat.{_≤_, _-_}
 use native.Mathlib.Omega.{arith}
@@ -14,38 +15,17 @@ Inv-loop from t₀ i₀ t i = (i ≤ length t₀) × Written (λ j x. at from j)
 abbrev μ-loop : tie.MeasureT-loop
 μ-loop from t₀ i₀ t i = length t₀ - i
 
-loop-holds : tie.Need-loop-holds Inv-loop μ-loop
-loop-holds c = (omega arith, written-none _ (c .args .t .now))
-
-shared-slice-read-t : tie.Need-shared-slice-read-t Inv-loop μ-loop
-shared-slice-read-t c = omega (arith, c .before .loop-test .taken, c .before .before .loop .inv .1 .size)
-
-loop-less : tie.Need-loop-less Inv-loop μ-loop
-loop-less c = omega (arith, c .before .loop-test .taken, c .before .before .loop .inv .1 .size)
-
 loop-again : tie.Need-loop-again Inv-loop μ-loop
 loop-again c =
-    (omega (arith, c .before .loop-test .taken, c .before .before .loop .inv .1 .size), written-more _ (c .before .before .loop .i) (c .before .before .before .args .t .now) (c .before .before .loop .t) _ (c .before .before .loop .inv .1) (c .before .loop-test .taken) refl)
-
-same-length : tie.Need-same-length Inv-loop μ-loop
-same-length c = c .before .loop .inv .1 .size
+    let w = c .before .before .loop .inv .1 in
+    (omega (arith, w .size), written-more w (c .before .loop-test .taken) refl)
 
 returns : tie.Need-returns Inv-loop μ-loop
-returns c = written-all _ (c .before .loop .i) (c .before .before .args .t .now) (c .before .loop .t) (c .before .before .args .from .now) (c .before .loop .inv .1) (c .loop-test .left) (omega arith) (λ j l. refl)
+returns c = written-all (c .before .loop .inv .1) (c .loop-test .left) (omega arith) (λ j l. refl)
 
 pub copy-spec : {M : Type 1} → statement M
 copy-spec =
     tie.close
-    (tie.spec
-    Inv-loop
-    μ-loop
-    loop-holds
-    (λ c. search needs)
-    shared-slice-read-t
-    (λ c. search needs)
-    (λ c. search needs)
-    (λ c. search needs)
-    loop-less
-    loop-again
-    same-length
-    returns)
+    (tie.spec Inv-loop μ-loop (λ c. (omega arith, written-none)) (λ c. search needs)
+    (λ c. omega (arith, c .before .before .loop .inv .1 .size)) (λ c. search needs) (λ c. search needs) (λ c. search needs)
+    (λ c. omega (arith, c .before .before .loop .inv .1 .size)) loop-again (λ c. c .before .loop .inv .1 .size) returns)

@@ -1,84 +1,61 @@
+-- The steps taken and the steps left lead where all steps lead, and i is the first loose cell of where they have led so far; where nothing is
+-- loose, the steps that are left change nothing.
 use mathlib.Core.Path.{_≡_, sym, _∙_}
 use Prim.Native.Nat.{_-_}
 use native.Mathlib.Omega.{arith}
+use Rattle.settle.specs.Grid.{grid}
 use Rattle.settle.specs.Step.{firstLoose}
-use Rattle.settle.proofs.LawWalk.{cells-small}
-use Rattle.settle.proofs.LawTurnOnce.{Settling, settling-start, settling-next, settling-end, settling-done, whole-on}
+use Rattle.settle.proofs.LawStepMirrored.{Settling, settling-start, settling-next, settling-end, settling-done, unsettled}
+use Rattle.settle.proofs.LawStepMirrored.{sought-all, sought-on}
 use Rattle.settle.proofs.settling.settle.Statement.{statement}
 use Rattle.settle.proofs.settling.settle.Tie as tie
 
 abbrev Inv-loop : tie.InvT-loop
-Inv-loop t₀ w k n mark times steps₀ i₀ t steps i = Settling w k n mark times t₀ t steps × (i ≡ firstLoose w k n t)
+Inv-loop t₀ w k n marked times steps₀ i₀ t steps i = Settling (grid w k n marked) times t₀ t steps × (i ≡ firstLoose w t)
 
 abbrev μ-loop : tie.MeasureT-loop
-μ-loop t₀ w k n mark times steps₀ i₀ t steps i = times - steps
+μ-loop t₀ w k n marked times steps₀ i₀ t steps i = times - steps
 
 first-loose-requires : tie.Need-first-loose-requires Inv-loop μ-loop
-first-loose-requires c κs = (c .before .before .pre, (omega arith, λ j l. absurd (omega arith)))
+first-loose-requires c κs = sought-all (c .before .before .pre) (omega arith) (λ j l. absurd (omega arith))
 
 loop-holds : tie.Need-loop-holds Inv-loop μ-loop
-loop-holds c =
-    let a = c .before .before .before .args in
-    (settling-start (a .w) (a .k) (a .n) (a .mark) (a .times) (a .t .now) (c .before .before .before .pre), c .first-loose .ensures)
-
-mul-if1 : tie.Need-mul-if1 Inv-loop μ-loop
-mul-if1 c = omega (arith, cells-small (c .before .before .before .before .before .args .w) (c .before .before .before .before .before .args .k) (c .before .before .before .before .before .args .n) (c .before .before .before .before .before .args .t .now) (c .before .before .before .before .before .pre))
+loop-holds c = (settling-start _ (c .before .before .before .pre), c .first-loose .ensures)
 
 same-length : tie.Need-same-length Inv-loop μ-loop
-same-length c = c .before .before .loop .inv .0 .table .even .size ∙ sym (c .before .before .before .before .before .before .pre .even .size)
+same-length c =
+    let l = c .before .before in
+    l .loop .inv .0 .table .even .size ∙ sym (l .before .before .before .before .pre .even .size)
 
 returns : tie.Need-returns Inv-loop μ-loop
-returns c =
-    let a = c .before .before .before .before .before .before .args in
-    let l = c .before .before .loop in
-    settling-end (a .w) (a .k) (a .n) (a .mark) (a .times) (a .t .now) (l .t) (l .steps) (l .inv .0) (l .i) (l .inv .1) (c .if1 .taken)
+returns c = let h = c .before .before .loop .inv in settling-end (h .0) (h .1) (c .if1 .taken)
 
-turn-at-requires : tie.Need-turn-at-requires Inv-loop μ-loop
-turn-at-requires c κs = (c .before .before .before .loop .inv .0 .table, (c .before .before .before .loop .inv .1, c .before .if1 .left))
-
-add-steps : tie.Need-add-steps Inv-loop μ-loop
-add-steps c = omega (arith, c .before .before .before .before .before .loop-test .taken)
+step-mirrored-requires : tie.Need-step-mirrored-requires Inv-loop μ-loop
+step-mirrored-requires c κs = let h = c .before .before .before .loop .inv in unsettled (h .0) (h .1) (c .before .if1 .left)
 
 first-loose-requires-2 : tie.Need-first-loose-requires-2 Inv-loop μ-loop
 first-loose-requires-2 c κs =
-    let a = c .before .before .before .before .before .before .before .before .before .before .before .args in
-    let l = c .before .before .before .before .before .before .before .loop in
-    let e = c .before .before .before .turn-at .ensures in
-    (settling-next (a .w) (a .k) (a .n) (a .mark) (a .times) (a .t .now) (l .t) (l .steps) (l .inv .0) (l .i) (l .inv .1) _ e (c .before .before .before .before .before .if1 .left) (c .before .before .before .before .before .before .loop-test .taken) .table, (omega (arith, c .before .before .before .before .before .if1 .left), whole-on (a .w) (a .k) (a .n) (a .mark) (a .times) (a .t .now) (l .t) (l .steps) (l .inv .0) (l .i) (l .inv .1) _ e))
-
-loop-less : tie.Need-loop-less Inv-loop μ-loop
-loop-less c = omega (arith, c .before .before .before .before .before .before .before .loop-test .taken)
+    let s = c .before .before .before in
+    let b = s .before .before in
+    let h = b .before .before .loop .inv in
+    sought-on (h .0) (h .1) (b .if1 .left) (s .step-mirrored .ensures)
 
 loop-again : tie.Need-loop-again Inv-loop μ-loop
 loop-again c =
-    let a = c .before .before .before .before .before .before .before .before .before .before .before .before .args in
-    let l = c .before .before .before .before .before .before .before .before .loop in
-    (settling-next (a .w) (a .k) (a .n) (a .mark) (a .times) (a .t .now) (l .t) (l .steps) (l .inv .0) (l .i) (l .inv .1) _ (c .before .before .before .before .turn-at .ensures) (c .before .before .before .before .before .before .if1 .left) (c .before .before .before .before .before .before .before .loop-test .taken), c .first-loose2 .ensures)
+    let s = c .before .before .before .before in
+    let b = s .before .before in
+    let h = b .before .before .loop .inv in
+    (settling-next (h .0) (h .1) (b .if1 .left) (s .step-mirrored .ensures) (b .before .loop-test .taken), c .first-loose2 .ensures)
 
 same-length-2 : tie.Need-same-length-2 Inv-loop μ-loop
-same-length-2 c = c .before .loop .inv .0 .table .even .size ∙ sym (c .before .before .before .before .before .pre .even .size)
-
-returns-2 : tie.Need-returns-2 Inv-loop μ-loop
-returns-2 c =
-    let a = c .before .before .before .before .before .args in
-    let l = c .before .loop in
-    settling-done (a .w) (a .k) (a .n) (a .mark) (a .times) (a .t .now) (l .t) (l .steps) (l .inv .0) (c .loop-test .left)
+same-length-2 c =
+    let l = c .before in
+    l .loop .inv .0 .table .even .size ∙ sym (l .before .before .before .before .pre .even .size)
 
 pub settle-spec : {M : Type 1} → statement M
 settle-spec =
     tie.close
-    (tie.spec
-    Inv-loop
-    μ-loop
-    first-loose-requires
-    loop-holds
-    mul-if1
-    same-length
-    returns
-    turn-at-requires
-    add-steps
-    first-loose-requires-2
-    loop-less
-    loop-again
-    same-length-2
-    returns-2)
+    (tie.spec Inv-loop μ-loop first-loose-requires loop-holds same-length returns step-mirrored-requires
+    (λ c. omega (arith, c .before .before .before .before .before .loop-test .taken)) first-loose-requires-2
+    (λ c. omega (arith, c .before .before .before .before .before .before .before .loop-test .taken)) loop-again same-length-2
+    (λ c. settling-done (c .before .loop .inv .0) (c .loop-test .left)))

@@ -1,10 +1,11 @@
+-- The rows before i are tested; row i ends before the table does, so its line can be added up.
 use mathlib.Core.Path.{_≡_}
-use Prim.Native.Nat.{_-_, _≤_}
-use native.Mathlib.Nat.{mul-le-mul, mul-le-mul-right}
+use Prim.Native.Nat.{_+_, _*_, _-_, _≤_}
+use native.Mathlib.Nat.{mul-le-mul-right}
 use native.Mathlib.Omega.{arith}
-use Rattle.settle.specs.Table.{rowAddsUp}
 use Rattle.search.specs.Test.{all}
 use Rattle.search.proofs.LawTest.{all-start, all-step, all-done}
+use Rattle.settle.specs.Table.{rowAddsUp}
 use Rattle.settle.proofs.LawTable.{row-rest}
 use borrow.Author.Needs.{needs}
 use Rattle.settle.proofs.table.rows_add_up.Statement.{statement}
@@ -16,45 +17,31 @@ Inv-loop t k n ok₀ i₀ ok i = (i ≤ n) × (ok ≡ all i (rowAddsUp k t))
 abbrev μ-loop : tie.MeasureT-loop
 μ-loop t k n ok₀ i₀ ok i = n - i
 
-loop-holds : tie.Need-loop-holds Inv-loop μ-loop
-loop-holds c = (omega arith, all-start _)
+abbrev start : tie.In-loop Inv-loop μ-loop → tie.Start Inv-loop μ-loop
+start c = c .before .before .before
 
-mul-b : tie.Need-mul-b Inv-loop μ-loop
-mul-b c = omega (arith, mul-le-mul-right (c .before .before .before .args .k) (c .loop-test .taken), mul-le-mul (c .before .before .before .pre .2) (c .before .before .before .pre .1))
-
-mul-adds-up : tie.Need-mul-adds-up Inv-loop μ-loop
-mul-adds-up c = omega (arith, mul-le-mul-right (c .before .before .before .args .k) (c .loop-test .taken), mul-le-mul (c .before .before .before .pre .2) (c .before .before .before .pre .1))
+-- a row ends where the table does, at the latest
+below : (c : tie.In-loop Inv-loop μ-loop) → c .before .loop .i * start c .args .k + start c .args .k ≤ start c .args .n * start c .args .k
+below c = omega (arith, mul-le-mul-right (start c .args .k) (c .loop-test .taken))
 
 shared-slice-read-adds-up : tie.Need-shared-slice-read-adds-up Inv-loop μ-loop
-shared-slice-read-adds-up c = omega (arith, mul-le-mul-right (c .before .before .before .before .args .k) (c .before .loop-test .taken), c .before .before .before .before .pre .3, c .before .before .before .before .pre .0)
-
-add-adds-up : tie.Need-add-adds-up Inv-loop μ-loop
-add-adds-up c = omega (arith, mul-le-mul-right (c .before .before .before .before .args .k) (c .before .loop-test .taken), mul-le-mul (c .before .before .before .before .pre .2) (c .before .before .before .before .pre .1))
-
-adds-up-requires : tie.Need-adds-up-requires Inv-loop μ-loop
-adds-up-requires c κs = row-rest (c .before .before .before .before .args .k) (c .before .before .before .before .args .n) (c .before .before .before .before .args .t .now) (c .before .before .before .before .pre .3) (c .before .before .before .before .pre .1) (c .before .before .before .before .pre .2) (c .before .before .loop .i) (c .before .loop-test .taken) (c .before .before .before .before .pre .0)
+shared-slice-read-adds-up c =
+    let h = start (c .before) .pre in
+    omega (arith, below (c .before), h .size, h .small .wide)
 
 loop-again : tie.Need-loop-again Inv-loop μ-loop
 unfolding rowAddsUp
-loop-again c = (omega (arith, c .before .before .loop-test .taken), all-step (rowAddsUp (c .before .before .before .before .before .args .k) (c .before .before .before .before .before .args .t .now)) (c .before .before .before .loop .i) (c .before .before .before .loop .inv .1) (c .adds-up .ensures))
-
-returns : tie.Need-returns Inv-loop μ-loop
-returns c = all-done _ (c .before .loop .inv) (c .loop-test .left)
+loop-again c =
+    let i = c .before .before in
+    let a = start i .args in
+    let l = i .before .loop in
+    (omega (arith, i .loop-test .taken), all-step (rowAddsUp (a .k) (a .t .now)) (l .i) (l .inv .1) (c .adds-up .ensures))
 
 pub rows-add-up-spec : {M : Type 1} → statement M
 rows-add-up-spec =
     tie.close
-    (tie.spec
-    Inv-loop
-    μ-loop
-    loop-holds
-    mul-b
-    mul-adds-up
-    shared-slice-read-adds-up
-    add-adds-up
-    (λ c. search needs)
-    adds-up-requires
-    (λ c. search needs)
-    (λ c. search needs)
-    loop-again
-    returns)
+    (tie.spec Inv-loop μ-loop (λ c. (omega arith, all-start _)) (λ c. omega (arith, below c, start c .pre .small .few))
+    (λ c. omega (arith, below c, start c .pre .small .few)) shared-slice-read-adds-up
+    (λ c. omega (arith, below (c .before), start (c .before) .pre .small .few)) (λ c. search needs)
+    (λ c κs. row-rest (start (c .before) .pre) (c .before .loop-test .taken)) (λ c. search needs) (λ c. search needs) loop-again
+    (λ c. all-done _ (c .before .loop .inv) (c .loop-test .left)))

@@ -1,8 +1,9 @@
+-- A remainder is below the unit; the results are the definition's, by the direction.
 use native.Mathlib.Omega.{arith}
-use borrow.Author.Needs.{needs}
 use native.Mathlib.Nat.{mod-lt}
-use Rattle.settle.proofs.shift.room.Statement.{statement}
-use Rattle.settle.proofs.shift.room.Tie as tie
+use borrow.Author.Needs.{needs}
+use Rattle.settle.proofs.moving.room.Statement.{statement}
+use Rattle.settle.proofs.moving.room.Tie as tie
 
 sub-result : tie.Need-sub-result
 sub-result c = let h = mod-lt (c .before .args .x) (c .before .pre) in omega arith

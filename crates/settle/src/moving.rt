@@ -1,23 +1,22 @@
 // Moves a round. The table is mirrored, and a round is the list of the cells by which its rows are entered, newest first.
-ghost use Prim.Native.Nat.{ℕ, _<_, _≤_, min};
+ghost use Prim.Native.Nat.{_<_, min};
 ghost use Rattle.settle.specs.Inner as inner;
-ghost use Rattle.settle.specs.Shown.{at, Whole};
 ghost use Rattle.settle.specs.Step as spec;
-ghost use Rattle.settle.specs.Table.{limit};
 ghost use mathlib.Core.Path.{_≡_};
 
-// Whether the round's cells go up: not if the marked cell is among them.
-fn rises(us: &[usize], mark: usize) -> bool
-    ensures { λ a. ⌜ a ≡ spec.rises mark (now (us .entry)) ⌝ }
+// Whether the round's cells go up, where the marked cell is to go up (`lift`) or down: as it has to if it is one of them, else the other
+// way, so that it goes as it has to where it is a twin.
+fn rises(lift: bool, mark: usize, us: &[usize]) -> bool
+    ensures { λ a. ⌜ a ≡ spec.rises lift mark (now (us .entry)) ⌝ }
 {
     let mut i = 0;
     while i < us.len() {
         if us[i] == mark {
-            return false;
+            return lift;
         }
         i += 1;
     }
-    true
+    !lift
 }
 
 // How far a cell is from the next whole number, up or down.
@@ -43,9 +42,7 @@ fn lesser(a: u64, b: u64) -> u64
 
 // The least room over the round, which is left by column x.
 fn least(t: &[u64], w: u64, k: usize, up: bool, x: usize, us: &[usize]) -> u64
-    requires { ⌜ 0 < w ⌝ }
-    requires { ⌜ 0 < k ⌝ }
-    requires { ⌜ inner.Trail w k (now t) x (now us) ⌝ }
+    requires { ⌜ inner.Measured w k (now t) x (now us) ⌝ }
     ensures { λ a. ⌜ a ≡ spec.least w k up (now (t .entry)) x (now (us .entry)) ⌝ }
 {
     let mut i = 0;
@@ -64,13 +61,9 @@ fn least(t: &[u64], w: u64, k: usize, up: bool, x: usize, us: &[usize]) -> u64
 }
 
 // The round's cells up by p and down by m, their twins the other way. (The contract counts in units of w.)
-fn shift(t: &mut [u64], w: u64, k: usize, p: u64, m: u64, x: usize, us: &[usize])
-    requires { ⌜ 0 < w ⌝ }
-    requires { ⌜ 0 < k ⌝ }
-    requires { ⌜ Whole w limit ⌝ }
-    requires { ⌜ ((i : ℕ) → at (now t) i ≤ limit) ⌝ }
-    requires { ⌜ inner.Fit w k p m (now t) x (now us) ⌝ }
-    ensures { λ _. ⌜ now (t .exit) ≡ spec.shift k p m x (now (us .entry)) (now (t .entry)) ⌝ }
+fn move_by(t: &mut [u64], w: u64, k: usize, p: u64, m: u64, x: usize, us: &[usize])
+    requires { ⌜ inner.Movable w k p m (now t) x (now us) ⌝ }
+    ensures { λ _. ⌜ now (t .exit) ≡ spec.moveBy k p m x (now (us .entry)) (now (t .entry)) ⌝ }
 {
     let mut i = 0;
     let mut out = x;
@@ -86,17 +79,13 @@ fn shift(t: &mut [u64], w: u64, k: usize, p: u64, m: u64, x: usize, us: &[usize]
     }
 }
 
-// A closed round moved by its least room.
-pub(crate) fn turned(t: &mut [u64], w: u64, k: usize, mark: usize, us: &[usize])
-    requires { ⌜ 0 < w ⌝ }
-    requires { ⌜ 0 < k ⌝ }
-    requires { ⌜ Whole w limit ⌝ }
-    requires { ⌜ ((i : ℕ) → at (now t) i ≤ limit) ⌝ }
-    requires { ⌜ inner.Closed w k (now t) (now us) ⌝ }
-    ensures { λ _. ⌜ now (t .exit) ≡ spec.moved w k mark (now (us .entry)) (now (t .entry)) ⌝ }
+// A closed round moved by its least room, so that the marked cell, where it is in the round, goes up or down as it has to.
+pub(crate) fn move_round(t: &mut [u64], w: u64, k: usize, lift: bool, mark: usize, us: &[usize])
+    requires { ⌜ inner.MovableRound w k (now t) (now us) ⌝ }
+    ensures { λ _. ⌜ now (t .exit) ≡ spec.moveRound w k lift mark (now (us .entry)) (now (t .entry)) ⌝ }
 {
     let x = us[us.len() - 1] % k;
-    let up = rises(us, mark);
+    let up = rises(lift, mark, us);
     let d = least(t, w, k, up, x, us);
-    shift(t, w, k, part(up, d), part(!up, d), x, us);
+    move_by(t, w, k, part(up, d), part(!up, d), x, us);
 }

@@ -9,10 +9,11 @@ use native.Mathlib.Nat.{le-of-suc-le-suc, eq-or-lt-of-le, div-add-mod', mod-lt, 
 use lib.ListN.{length, take, drop, replicate, length-append, List·getD-append}
 use lib.Seq.{getD-append-add, take-at}
 use lib.Dec.{eqb, lit<, lit≤}
+use Rattle.settle.specs.Grid.{Grid, area}
 use Rattle.settle.specs.Shown.{at, Whole, sum, Sums, Shown}
 use Rattle.settle.specs.Table.{limit, Good}
 use Rattle.settle.specs.Step.{shownTable}
-use Rattle.settle.specs.Answer.{Answers}
+use Rattle.settle.specs.Answer.{AnswersShow}
 use Rattle.settle.specs.declared.Settled.{Settled}
 use Rattle.settle.proofs.LawAnswer.{showing}
 use Rattle.settle.proofs.LawShown.{shown-length, shown-law, shown-more}
@@ -23,7 +24,7 @@ use Rattle.desk.specs.Account.{lineOutcome}
 use Rattle.desk.specs.Cells.{width, tableSize, cellsOf}
 use Rattle.desk.specs.Table.{rowGiven, rows, total, tableOf, cellsAfter}
 use Rattle.desk.specs.Unit.{gram, kilogram, tonne, unitOf, unitOfSheet}
-use Rattle.desk.specs.Demands.{Demand3}
+use Rattle.desk.specs.Demands.{tableGrid, Demand3}
 use Rattle.desk.specs.Declare.{shownAfter, BothAfter}
 use Rattle.desk.specs.Inner.{Showable, shownOver}
 use Rattle.desk.specs.declared.answer.Fault.{Fault}
@@ -112,8 +113,8 @@ module _ (l : ℕ → LineOutcome) where
           let m = balanced-cell (r .balanced) (i % width) inside in
           rw c (omega arith)
 
-      pub sums-right : Sums width (n + 1) (tableOf n l)
-      sums-right =
+      pub sums-right : (W : ℕ) → Sums (tableGrid W n) (tableOf n l)
+      sums-right W =
           let less : n + 1 - 1 ≡ n = omega arith in
           record {
             rows = λ i h. let r = table-row i h in row-adds-up width i (tableOf n l) (r .cells) (r .stands) (lit< tt) (r .balanced .adds);
@@ -121,22 +122,22 @@ module _ (l : ℕ → LineOutcome) where
           }
 
       -- such a table can be settled, in any unit of the sheet
-      pub can-be-settled : (code : ℕ) → Good (unitOf code) width (n + 1) (tableOf n l)
+      pub can-be-settled : (code : ℕ) → Good (tableGrid (unitOf code) n) (tableOf n l)
       can-be-settled code =
           let u = unit-whole code in
           record {
             shape = record { unit = u .0; whole = u .1; wide = lit< tt; narrow = lit≤ tt; high = omega arith; low = omega arith };
             size = table-size;
             most = cell-small;
-            sums = sums-right;
+            sums = sums-right (unitOf code);
           }
 
 -- ---- the shown cells
 
-pub settled-cells : (W K n m : ℕ) (t lent lent' : List ℕ) (r : Settled) → Good W K n t → m ≡ n * K → m ≤ length lent
-    → Answers (length t) W K n t (shownTable W K n t) lent lent' r → lent' ≡ shownTable W K n t ++ drop m lent
-settled-cells W K n m t lent lent' r g e h a =
-    showing W K n t lent lent' r g (omega arith) a .cells ∙ ap (λ (k : ℕ). shownTable W K n t ++ drop k lent) (sym e)
+pub settled-cells : {g : Grid} {t lent lent' : List ℕ} {r : Settled} (m : ℕ) → Good g t → m ≡ area g → m ≤ length lent
+    → AnswersShow g t lent lent' r → lent' ≡ shownTable g t ++ drop m lent
+settled-cells {g} {t} {lent} m good e h a =
+    showing good (omega arith) a .cells ∙ ap (λ (k : ℕ). shownTable g t ++ drop k lent) (sym e)
 
 -- the accepted cells begin with the table
 pub first-cells : (n : ℕ) (l : ℕ → LineOutcome) (cells after : List ℕ) → after ≡ cellsAfter Accepted n l cells
@@ -145,14 +146,14 @@ unfolding cellsAfter
 first-cells n l cells after e = rw e (take-at (tableOf n l) (drop (tableSize n) cells) (tableSize n) (omega (arith, table-size l n)))
 
 -- demand 3 of the lent cells
-shown-over : (W n : ℕ) (t rest s : List ℕ) → length t ≡ n * width → Shown W width n t s → Shown W width n (t ++ rest) s
-shown-over W n t rest s e g = record { cells = λ i l. rw (List·getD-append t rest 0 i (omega arith)) (g .cells i l); sums = g .sums }
+shown-over : (g : Grid) (t rest s : List ℕ) → length t ≡ area g → Shown g t s → Shown g (t ++ rest) s
+shown-over g t rest s e h = record { cells = λ i l. rw (List·getD-append t rest 0 i (omega arith)) (h .cells i l); sums = h .sums }
 
 module _ (f : Lent) (good : bookOk (f .book) ≡ true) (right : sheetOk (f .sheet) ≡ true) where
   few : lineCount (f .sheet) ≤ mostLines
   few = lines-few (f .sheet) right
 
-  pub settles : Good (unitOfSheet (f .sheet)) width (lineCount (f .sheet) + 1) (tableOf (lineCount (f .sheet)) (lineOutcome f))
+  pub settles : Good (tableGrid (unitOfSheet (f .sheet)) (lineCount (f .sheet))) (tableOf (lineCount (f .sheet)) (lineOutcome f))
   settles = can-be-settled (lineOutcome f) (lineCount (f .sheet)) (line-balances f good) few (sheetHeader (f .sheet) .shownUnit)
 
   module _ (n W : ℕ) (exact exact' : List ℕ) (e : n ≡ lineCount (f .sheet)) (u : W ≡ unitOfSheet (f .sheet))
@@ -186,11 +187,11 @@ module _ (f : Lent) (good : bookOk (f .book) ≡ true) (right : sheetOk (f .shee
       allows =
           let lines = lineCount (f .sheet) in
           let t = tableOf lines (lineOutcome f) in
-          let unit = unitOfSheet (f .sheet) in
-          let table = shownTable unit width (lines + 1) t in
+          let g = tableGrid (unitOfSheet (f .sheet)) lines in
+          let table = shownTable g t in
           let past = drop (tableSize lines) shown in
-          let law = shown-more unit width (lines + 1) t settles table past (shown-length unit width (lines + 1) t settles) (shown-law unit width (lines + 1) t settles) in
-          rw (a, is-shown) (shown-over unit (lines + 1) t (drop (tableSize lines) exact) (table ++ past) (table-size (lineOutcome f) lines) law)
+          let law = shown-more settles table past (shown-length settles) (shown-law settles) in
+          rw (a, is-shown) (shown-over g t (drop (tableSize lines) exact) (table ++ past) (table-size (lineOutcome f) lines) law)
 
 pub both-refused : (f : Lent) (fault : Fault) (line : ℕ) (exact shown exact' shown' : List ℕ) → exact' ≡ replicate (length exact) 0
     → shown' ≡ replicate (length shown) 0 → BothAfter f exact shown (Refused fault line) exact' shown'

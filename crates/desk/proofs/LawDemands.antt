@@ -26,7 +26,7 @@ use Rattle.desk.specs.Account.{treatmentOf, generatedOf, inWater, byTrea
 use Rattle.desk.specs.Answer.{answerNumber, answerLine}
 use Rattle.desk.specs.Table.{rowGiven, rows, total, tableOf, roomFor, byFiles, orLine, byLines, orElseLines, answerOf, cellsAfter}
 use Rattle.desk.specs.Unit.{unitOfSheet}
-use Rattle.desk.specs.Demands.{OfFile, OfLine, Demand1, LineDemand, cellAt, Demand2, Demand3}
+use Rattle.desk.specs.Demands.{OfFile, OfLine, tableGrid, Demand1, LineDemand, cellAt, Demand2, Demand3}
 use Rattle.desk.specs.Declare.{shownAfter, BothAfter, Declared}
 use Rattle.desk.specs.Inner.{Ready}
 use Rattle.desk.specs.declared.line.Line.{Line}
@@ -237,7 +237,7 @@ module _ (f : Lent) (exact shown : List ℕ) (r : Outcome) (exact' shown' : List
           let size = table-size (lineOutcome f) n in
           let few = lines-few (f .sheet) (is-ready .sheet) in
           let less : n + 1 - 1 ≡ n = omega arith in
-          let right = rw less at (sums-right (lineOutcome f) n (line-balances f (is-ready .book)) few .columns j h) in
+          let right = rw less at (sums-right (lineOutcome f) n (line-balances f (is-ready .book)) few 1 .columns j h) in
           let here = List·getD-append t past 0 (n * width + j) (omega arith) in
           let sums = sum-same (t ++ past) t j j width n
           (λ k l. List·getD-append t past 0 (j + k * width) (omega (arith, mul-le-mul-right width l))) in
@@ -256,11 +256,10 @@ module _ (f : Lent) (exact shown : List ℕ) (r : Outcome) (exact' shown' : List
       unfolding shownAfter
       shown-past =
           let n = lineCount (f .sheet) in
-          let unit = unitOfSheet (f .sheet) in
-          let t = tableOf n (lineOutcome f) in
-          let size = shown-length unit width (n + 1) t (settles f (is-ready .book) (is-ready .sheet)) in
+          let g = tableGrid (unitOfSheet (f .sheet)) n in
+          let size = shown-length (settles f (is-ready .book) (is-ready .sheet)) in
           let shows = rw yes at (both .shows) in
-          rw shows (drop-at (shownTable unit width (n + 1) t) (drop (tableSize n) shown) (tableSize n) (omega arith))
+          rw shows (drop-at (shownTable g (tableOf n (lineOutcome f))) (drop (tableSize n) shown) (tableSize n) (omega arith))
 
     module _ (no : r ≢ Accepted) where
       both-zero : (o : Outcome) → r ≡ o → (exact' ≡ replicate (length exact) 0) × (shown' ≡ replicate (length shown) 0)

@@ -1,5 +1,5 @@
 -- The whole desk: the exact table and, in whole shown units, the shown one.
-use Prim.Native.Nat.{ℕ, _+_}
+use Prim.Native.Nat.{ℕ}
 use mathlib.Core.Path.{_≡_}
 use mathlib.Core.List.{List, _++_}
 use lib.ListN.{length, drop, replicate}
@@ -7,17 +7,17 @@ use Rattle.settle.specs.Step.{shownTable}
 use Rattle.desk.specs.Lent.{Lent}
 use Rattle.desk.specs.Sheet.{lineCount}
 use Rattle.desk.specs.Account.{lineOutcome}
-use Rattle.desk.specs.Cells.{width, tableSize}
+use Rattle.desk.specs.Cells.{tableSize}
 use Rattle.desk.specs.Unit.{unitOfSheet}
 use Rattle.desk.specs.Table.{tableOf, cellsAfter}
-use Rattle.desk.specs.Demands.{Demand1, Demand2, Demand3}
+use Rattle.desk.specs.Demands.{tableGrid, Demand1, Demand2, Demand3}
 use Rattle.desk.specs.declared.answer.Outcome.{Outcome}
 use Rattle.desk.specs.declared.answer.Outcome.the-variants.{Accepted, Refused}
 
 -- on acceptance the shown table, and past it what was there; on refusal zeros
 unfoldable pub shownAfter : (r : Outcome) (f : Lent) (cells : List ℕ) → List ℕ
 shownAfter Accepted f cells =
-    shownTable (unitOfSheet (f .sheet)) width (lineCount (f .sheet) + 1) (tableOf (lineCount (f .sheet)) (lineOutcome f))
+    shownTable (tableGrid (unitOfSheet (f .sheet)) (lineCount (f .sheet))) (tableOf (lineCount (f .sheet)) (lineOutcome f))
     ++ drop (tableSize (lineCount (f .sheet))) cells
 shownAfter (Refused fault line) f cells = replicate (length cells) 0
 

@@ -5,13 +5,14 @@ use mathlib.Core.Logic.{_≢_, _⊎_}
 use mathlib.Core.List.{List}
 use lib.ListN.{length, drop, replicate}
 use Rattle.amounts.specs.Line.{removedOf, reusedOf, dischargedOf, _over_, whole, manualValue, Sound}
+use Rattle.settle.specs.Grid.{Grid, grid}
 use Rattle.settle.specs.Shown.{at, sum, Shown}
 use Rattle.desk.specs.Lent.{Lent}
 use Rattle.desk.specs.Book.{techniqueBlock}
 use Rattle.desk.specs.Row.{rowOf}
 use Rattle.desk.specs.Sheet.{lineCount}
 use Rattle.desk.specs.Line.{lineOf}
-use Rattle.desk.specs.Cells.{width, tableSize}
+use Rattle.desk.specs.Cells.{width, discharged, tableSize}
 use Rattle.desk.specs.Account.{treatmentOf, generatedOf, inWater}
 use Rattle.desk.specs.Answer.{answerNumber, answerLine}
 use Rattle.desk.specs.Table.{answerOf}
@@ -82,5 +83,9 @@ pub record Demand2 (f : Lent) (exact' : List ℕ) : Type 0 where
 -- ---- 3. Each shown figure, totals included, is at least the whole units in the exact figure and never more than one above them; an
 -- ---- exact whole figure is shown as it is. Every shown row and column adds up.
 
+-- a table of so many lines and the row of sums, in units of W
+abbrev pub tableGrid : (W lines : ℕ) → Grid
+tableGrid W lines = grid W width (lines + 1) discharged
+
 abbrev pub Demand3 : (f : Lent) (exact' shown' : List ℕ) → Type 0
-Demand3 f exact' shown' = Shown (unitOfSheet (f .sheet)) width (lineCount (f .sheet) + 1) exact' shown'
+Demand3 f exact' shown' = Shown (tableGrid (unitOfSheet (f .sheet)) (lineCount (f .sheet))) exact' shown'

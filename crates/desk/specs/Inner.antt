@@ -17,7 +17,7 @@ use Rattle.desk.specs.Lent.{Lent}
 use Rattle.desk.specs.Cells.{width, tableSize, cellsOf}
 use Rattle.desk.specs.Account.{lineOutcome}
 use Rattle.desk.specs.Table.{byLines, cellsAfter}
-use Rattle.desk.specs.Demands.{Demand3}
+use Rattle.desk.specs.Demands.{tableGrid, Demand3}
 use Rattle.desk.specs.Declare.{BothAfter}
 use Rattle.desk.specs.declared.key.Key.{Key}
 use Rattle.desk.specs.declared.line.Line.{Line}
@@ -127,11 +127,11 @@ pub record Showable (unit lines : ℕ) (exact shown : List ℕ) : Type 0 where
   pub few : lines ≤ mostLines
   pub exactRoom : tableSize lines ≤ length exact
   pub shownRoom : tableSize lines ≤ length shown
-  pub good : Good unit width (lines + 1) (take (tableSize lines) exact)
+  pub good : Good (tableGrid unit lines) (take (tableSize lines) exact)
 
 -- the shown table of the exact one, and past it what was there
 abbrev pub shownOver : (unit lines : ℕ) (exact shown : List ℕ) → List ℕ
-shownOver unit lines exact shown = shownTable unit width (lines + 1) (take (tableSize lines) exact) ++ drop (tableSize lines) shown
+shownOver unit lines exact shown = shownTable (tableGrid unit lines) (take (tableSize lines) exact) ++ drop (tableSize lines) shown
 
 -- the promise where rules 1, 2 and 3 leave it to the lines
 pub record LinesDeclared (f : Lent) (exact shown : List ℕ) (r : Outcome) (exact' shown' : List ℕ) : Type 0 where

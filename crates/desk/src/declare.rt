@@ -7,6 +7,7 @@ ghost use Rattle.desk.specs.Declare.{Declared};
 ghost use Rattle.desk.specs.Inner.{Ready, Showable, shownOver, LinesDeclared};
 use super::answer::Outcome;
 use super::cells::COLUMNS;
+use super::cells::DISCHARGED;
 use super::sheet::line_count;
 use super::table::by_files;
 use super::table::fill;
@@ -25,7 +26,7 @@ fn show(unit: u64, lines: usize, exact: &[u64], shown: &mut [u64])
     ensures { λ _. ⌜ now (shown .exit) ≡ shownOver unit lines (now (exact .entry)) (now (shown .entry)) ⌝ }
 {
     let cells = COLUMNS * (lines + 1);
-    settle::show(unit, COLUMNS, lines + 1, &exact[..cells], shown);
+    settle::show(unit, COLUMNS, lines + 1, DISCHARGED, &exact[..cells], shown);
 }
 
 fn both_tables(book: &[u8], sheet: &[u8], exact: &mut [u64], shown: &mut [u64]) -> Outcome

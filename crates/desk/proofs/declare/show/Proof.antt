@@ -8,7 +8,7 @@ use Rattle.desk.proofs.declare.show.Tie as tie
 returns : tie.Need-returns
 returns c =
     let z = c .before .before .before .before .before .before .before in
-    settled-cells _ _ _ _ _ _ _ _ (z .pre .good) (omega arith) (z .pre .shownRoom) (c .before .before .show .ensures)
+    settled-cells _ (z .pre .good) (omega arith) (z .pre .shownRoom) (c .before .before .show .ensures)
 
 pub show-spec : {M : Type 1} → statement M
 show-spec =

@@ -72,17 +72,17 @@ fn refused(rule: u16, line: u16) {
 fn report(book: &[u8], sheet: &[u8]) {
     let mut exact = [0u64; MOST_CELLS];
     let mut shown = [0u64; MOST_CELLS];
-    match declare(book, sheet, &mut exact, &mut shown) {
-        Outcome::Refused(fault, line) => refused(fault.number(), line),
-        Outcome::Accepted => {
-            let lines = line_count(sheet);
-            table(b"exact", &exact, lines);
-            say(b"unit");
-            number(unit_of(sheet));
-            say(b"\n");
-            table(b"shown", &shown, lines);
-        }
+    let outcome = declare(book, sheet, &mut exact, &mut shown);
+    if let Outcome::Accepted = outcome {
+        let lines = line_count(sheet);
+        table(b"exact", &exact, lines);
+        say(b"unit");
+        number(unit_of(sheet));
+        say(b"\n");
+        table(b"shown", &shown, lines);
+        return;
     }
+    refused(outcome.number(), outcome.line());
 }
 
 // One byte more than the limit is read, so that a longer file is refused and not cut.

@@ -3,7 +3,7 @@
 use Prim.Native.Nat.{ℕ, _/_, _%_, _≤_, min}
 use mathlib.Core.Path.{_≡_, refl, sym, ap, _∙_}
 use mathlib.Core.List.{List}
-use mathlib.Core.Logic.{⊎-elim, _≢_}
+use mathlib.Core.Logic.{⊎-elim, _⊎_, inl, inr, _≢_}
 use native.Mathlib.Omega.{arith}
 use lib.ListN.{length}
 use Rattle.search.proofs.LawTest.{clash}
@@ -12,23 +12,25 @@ use Rattle.desk.specs.Answer.{answerNumber, answerLine}
 use Rattle.desk.specs.Sheet.{mostLines}
 use Rattle.desk.specs.Demands.{OfFile, OfLine}
 use Rattle.desk.specs.declared.answer.Outcome.{Outcome}
-use Rattle.desk.specs.declared.answer.Outcome.the-variants.{Accepted, Refused}
+use Rattle.desk.specs.declared.answer.Outcome.the-variants.{Accepted, RefusedFile, RefusedLine}
 use Rattle.desk.proofs.LawDemands.{answer-line-small}
 use Rattle.desk.proofs.LawOnce.{declared-once}
 use Rattle.checkraven_c.specs.Code.{numberUnit, codeOf, answered, Accounts}
 
+told : (o : Outcome) → (o ≡ Accepted) ⊎ (o ≢ Accepted)
+told Accepted = inl refl
+told (RefusedFile k) = inr (λ e. clash (cc))
+told (RefusedLine k line) = inr (λ e. clash (cc))
+
 module _ (f : Lent) (exact shown : List ℕ) (r : ℕ) (exact' shown' : List ℕ) (p : Accounts f exact shown r exact' shown') where
   -- 0 exactly for accepted
   pub zero-accepted : r ≡ 0 → answered f exact shown ≡ Accepted
-  zero-accepted z = go (answered f exact shown) refl
+  zero-accepted z = ⊎-elim (λ (yes : answered f exact shown ≡ Accepted). yes) (λ (other : answered f exact shown ≢ Accepted). absurd (too-small other)) (told (answered f exact shown))
     where
-      go : (o : Outcome) → answered f exact shown ≡ o → answered f exact shown ≡ Accepted
-      go Accepted e = e
-      go (Refused k line) e =
-          let refused : answered f exact shown ≢ Accepted = λ q. clash (cc) in
-          absurd
-          (⊎-elim (λ (h : OfFile _ _). omega (arith, h .first, p .answer)) (λ (h : OfLine _ _ _). omega (arith, h .first, p .answer))
-          (p .declared .demand1 .numbered refused))
+      too-small : answered f exact shown ≢ Accepted → ⊥
+      too-small other =
+          ⊎-elim (λ (h : OfFile _ _). omega (arith, h .first, p .answer)) (λ (h : OfLine _ _ _). omega (arith, h .first, p .answer))
+          (p .declared .demand1 .numbered other)
 
   pub accepted-zero : answered f exact shown ≡ Accepted → r ≡ 0
   accepted-zero e = p .answer ∙ ap codeOf e

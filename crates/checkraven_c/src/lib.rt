@@ -2,7 +2,6 @@
 ghost use mathlib.Core.Path.{_≡_};
 ghost use Rattle.desk.specs.Lent.{lent};
 ghost use Rattle.checkraven_c.specs.Code.{Accounts};
-use desk::answer::Outcome;
 use desk::declare::declare;
 
 // A refusal's number is counted in these, so that the line, a u16, stands below it.
@@ -19,8 +18,6 @@ pub extern "C" fn checkraven_account(
     ensures { λ r. ⌜ Accounts (lent (now (book .entry)) (now (sheet .entry)))
         (now (exact .entry)) (now (shown .entry)) r (now (exact .exit)) (now (shown .exit)) ⌝ }
 {
-    match declare(book, sheet, exact, shown) {
-        Outcome::Accepted => 0,
-        Outcome::Refused(fault, line) => (fault.number() as u64) * NUMBER + (line as u64),
-    }
+    let outcome = declare(book, sheet, exact, shown);
+    (outcome.number() as u64) * NUMBER + (outcome.line() as u64)
 }

@@ -3,7 +3,7 @@ use Prim.Native.Nat.{ℕ, zero, suc, _+_, _*_, _-_, _/_, _%_, _≤_, _<_}
 use mathlib.Core.Path.{_≡_, refl, sym, ap, subst, _∙_}
 use mathlib.Core.Bool.{Bool, true, false, cond}
 use mathlib.Core.List.{List, _++_, append-assoc}
-use mathlib.Core.Logic.{⊎-elim}
+use mathlib.Core.Logic.{⊎-elim, _≢_}
 use native.Mathlib.Omega.{arith}
 use native.Mathlib.Nat.{le-of-suc-le-suc, eq-or-lt-of-le, div-add-mod', mod-lt, div-lt-iff-lt-mul}
 use lib.ListN.{length, take, drop, replicate, length-append, List·getD-append}
@@ -27,8 +27,8 @@ use Rattle.desk.specs.Unit.{gram, kilogram, tonne, unitOf, unitOfSheet}
 use Rattle.desk.specs.Demands.{tableGrid, Demand3}
 use Rattle.desk.specs.Declare.{shownAfter, BothAfter}
 use Rattle.desk.specs.Inner.{Showable, shownOver}
-use Rattle.desk.specs.declared.answer.Fault.{Fault}
-use Rattle.desk.specs.declared.answer.Outcome.the-variants.{Accepted, Refused}
+use Rattle.desk.specs.declared.answer.Outcome.{Outcome}
+use Rattle.desk.specs.declared.answer.Outcome.the-variants.{Accepted, RefusedFile, RefusedLine}
 use Rattle.desk.specs.declared.account.LineOutcome.{LineOutcome}
 use Rattle.desk.proofs.LawAccount.{Balances, lineMost, line-balances}
 use Rattle.desk.proofs.LawColumns.{zip, zip-at, zeros-at, Balanced, balanced-cell, balanced-wider, row-adds-up}
@@ -193,7 +193,10 @@ module _ (f : Lent) (good : bookOk (f .book) ≡ true) (right : sheetOk (f .shee
           let law = shown-more settles table past (shown-length settles) (shown-law settles) in
           rw (a, is-shown) (shown-over g t (drop (tableSize lines) exact) (table ++ past) (table-size (lineOutcome f) lines) law)
 
-pub both-refused : (f : Lent) (fault : Fault) (line : ℕ) (exact shown exact' shown' : List ℕ) → exact' ≡ replicate (length exact) 0
-    → shown' ≡ replicate (length shown) 0 → BothAfter f exact shown (Refused fault line) exact' shown'
-unfolding cellsAfter shownAfter
-both-refused f fault line exact shown exact' shown' e s = record { table = e; shows = s }
+pub both-refused : (f : Lent) (r : Outcome) (exact shown exact' shown' : List ℕ) → r ≢ Accepted
+    → exact' ≡ cellsAfter r (lineCount (f .sheet)) (lineOutcome f) exact → shown' ≡ replicate (length shown) 0
+    → BothAfter f exact shown r exact' shown'
+unfolding shownAfter
+both-refused f Accepted exact shown exact' shown' refused e s = absurd (refused refl)
+both-refused f (RefusedFile fault) exact shown exact' shown' refused e s = record { table = e; shows = s }
+both-refused f (RefusedLine fault line) exact shown exact' shown' refused e s = record { table = e; shows = s }

@@ -23,8 +23,8 @@ use Rattle.desk.specs.Line.{lineOf}
 use Rattle.desk.specs.Sheet.{sheetOk, lineCount, mostLines}
 use Rattle.desk.specs.Cells.{width, tableSize, cellsOf}
 use Rattle.desk.specs.Account.{treatmentOf, generatedOf, inWater, byTreatment, byRow, excessive, accountOf, lineOutcome}
-use Rattle.desk.specs.Answer.{answerNumber, answerLine}
-use Rattle.desk.specs.Table.{rowGiven, rows, total, tableOf, roomFor, byFiles, orLine, byLines, orElseLines, answerOf, cellsAfter}
+use Rattle.desk.specs.Answer.{fileRule, lineRule, answerNumber, answerLine}
+use Rattle.desk.specs.Table.{rowGiven, rows, total, tableOf, byFiles, orLine, byLines, orElseLines, answerOf, cellsAfter}
 use Rattle.desk.specs.Unit.{unitOfSheet}
 use Rattle.desk.specs.Demands.{OfFile, OfLine, tableGrid, Demand1, LineDemand, cellAt, Demand2, Demand3}
 use Rattle.desk.specs.Declare.{shownAfter, BothAfter, Declared}
@@ -41,10 +41,8 @@ use Rattle.desk.specs.declared.answer.FileFault.{FileFault}
 use Rattle.desk.specs.declared.answer.FileFault.the-variants.{BookMalformed, SheetMalformed, ResultTooShort}
 use Rattle.desk.specs.declared.answer.LineFault.{LineFault}
 use Rattle.desk.specs.declared.answer.LineFault.the-variants as of
-use Rattle.desk.specs.declared.answer.Fault.{Fault}
-use Rattle.desk.specs.declared.answer.Fault.the-variants as fault
 use Rattle.desk.specs.declared.answer.Outcome.{Outcome}
-use Rattle.desk.specs.declared.answer.Outcome.the-variants.{Accepted, Refused}
+use Rattle.desk.specs.declared.answer.Outcome.the-variants.{Accepted, RefusedFile, RefusedLine}
 use Rattle.desk.specs.declared.cells.TableRow.{TableRow}
 use Rattle.desk.proofs.LawColumns.{sum-same}
 use Rattle.desk.proofs.LawAccount.{line-sound, line-balances}
@@ -56,78 +54,76 @@ use Rattle.desk.proofs.LawDeclare.{line-cell, table-size, sums-right, s
 abbrev Numbered : (lines number line : ℕ) → Type 0
 Numbered lines number line = OfFile number line ⊎ OfLine lines number line
 
-file-numbered : (lines : ℕ) (k : FileFault) → Numbered lines (answerNumber (Refused (fault.File k) 0)) 0
+file-numbered : (lines : ℕ) (k : FileFault) → Numbered lines (fileRule k) 0
 file-numbered lines BookMalformed = inl (record { first = omega arith; last = omega arith; none = refl })
 file-numbered lines SheetMalformed = inl (record { first = omega arith; last = omega arith; none = refl })
 file-numbered lines ResultTooShort = inl (record { first = omega arith; last = omega arith; none = refl })
 
-line-rules : (k : LineFault) (line : ℕ) → (4 ≤ answerNumber (Refused (fault.Line k) line)) × (answerNumber (Refused (fault.Line k) line) ≤ 11)
-line-rules of.ActivityTooLarge line = (omega arith, omega arith)
-line-rules of.ReuseTooLarge line = (omega arith, omega arith)
-line-rules of.NoRow line = (omega arith, omega arith)
-line-rules of.NoTechnique line = (omega arith, omega arith)
-line-rules of.WrongKind line = (omega arith, omega arith)
-line-rules of.BadReading line = (omega arith, omega arith)
-line-rules of.ZeroDivisor line = (omega arith, omega arith)
-line-rules of.KAboveOne line = (omega arith, omega arith)
+line-rules : (k : LineFault) → (4 ≤ lineRule k) × (lineRule k ≤ 11)
+line-rules of.ActivityTooLarge = (omega arith, omega arith)
+line-rules of.ReuseTooLarge = (omega arith, omega arith)
+line-rules of.NoRow = (omega arith, omega arith)
+line-rules of.NoTechnique = (omega arith, omega arith)
+line-rules of.WrongKind = (omega arith, omega arith)
+line-rules of.BadReading = (omega arith, omega arith)
+line-rules of.ZeroDivisor = (omega arith, omega arith)
+line-rules of.KAboveOne = (omega arith, omega arith)
 
--- what is refused among n lines is a line of them
-abbrev LineOf : (n : ℕ) (r : Outcome) → Type 0
-LineOf n Accepted = Unit
-LineOf n (Refused k line) = OfLine n (answerNumber (Refused k line)) line
+-- a refused line is one of so many
+abbrev Within : (n : ℕ) (r : Outcome) → Type 0
+Within n Accepted = Unit
+Within n (RefusedFile k) = Unit
+Within n (RefusedLine k line) = (1 ≤ line) × (line ≤ n)
 
-one-more : (n : ℕ) (r : Outcome) (o : LineOutcome) → LineOf n r → LineOf (suc n) (orLine r o n)
+one-more : (n : ℕ) (r : Outcome) (o : LineOutcome) → Within n r → Within (suc n) (orLine r o n)
 one-more n Accepted (Given row) h = tt
-one-more n Accepted (Refusal k) h = let rule = line-rules k (n + 1) in
-    record { first = rule .0; last = rule .1; some = omega arith; within = omega arith }
-one-more n (Refused k line) o h = record { first = h .first; last = h .last; some = h .some; within = omega (arith, h .within) }
+one-more n Accepted (Refusal k) h = (omega arith, omega arith)
+one-more n (RefusedFile k) o h = tt
+one-more n (RefusedLine k line) o h = (h .0, omega (arith, h .1))
 
-lines-numbered : (n : ℕ) (l : ℕ → LineOutcome) → LineOf n (byLines n l)
+lines-within : (n : ℕ) (l : ℕ → LineOutcome) → Within n (byLines n l)
 unfolding byLines
-lines-numbered zero l = tt
-lines-numbered (suc n) l = one-more n (byLines n l) (l n) (lines-numbered n l)
+lines-within zero l = tt
+lines-within (suc n) l = one-more n (byLines n l) (l n) (lines-within n l)
 
--- what is refused before the lines is a whole file or result
-abbrev FileOf : Outcome → Type 0
-FileOf Accepted = Unit
-FileOf (Refused k line) = (lines : ℕ) → Numbered lines (answerNumber (Refused k line)) line
-
-files-numbered : (f : Lent) (room : ℕ) → FileOf (byFiles f room)
+-- before the lines no line is refused
+files-within : (f : Lent) (room : ℕ) → Within 0 (byFiles f room)
 unfolding byFiles
-files-numbered f room =
+files-within f room =
     either-way (bookOk (f .book))
     (λ p. either-way (sheetOk (f .sheet))
-    (λ q. rw (p, q) (room-numbered (lineCount (f .sheet)) room))
-    (λ q. rw (p, q) (λ lines. file-numbered lines SheetMalformed)))
-    (λ p. rw p (λ lines. file-numbered lines BookMalformed))
-  where
-    room-numbered : (lines room : ℕ) → FileOf (roomFor lines room)
-    room-numbered lines room =
-        either-way (leb (tableSize lines) room) (λ p. rw p tt) (λ p. rw p (λ n. file-numbered n ResultTooShort))
+    (λ q. either-way (leb (tableSize (lineCount (f .sheet))) room) (λ l. rw (p, q, l) tt) (λ l. rw (p, q, l) tt))
+    (λ q. rw (p, q) tt))
+    (λ p. rw p tt)
 
-answer-numbered : (f : Lent) (room : ℕ) → answerOf f room ≢ Accepted
-    → Numbered (lineCount (f .sheet)) (answerNumber (answerOf f room)) (answerLine (answerOf f room))
+both-within : (n : ℕ) (files lines : Outcome) → Within 0 files → Within n lines → Within n (orElseLines files lines)
+both-within n Accepted lines h g = g
+both-within n (RefusedFile k) lines h g = tt
+both-within n (RefusedLine k line) lines h g = (h .0, omega (arith, h .0, h .1))
+
+answer-within : (f : Lent) (room : ℕ) → Within (lineCount (f .sheet)) (answerOf f room)
 unfolding answerOf
-answer-numbered f room = go (byFiles f room) (byLines (lineCount (f .sheet)) (lineOutcome f)) (files-numbered f room) (lines-numbered (lineCount (f .sheet)) (lineOutcome f))
-  where
-    go : (files lines : Outcome) → FileOf files → LineOf (lineCount (f .sheet)) lines → orElseLines files lines ≢ Accepted
-        → Numbered (lineCount (f .sheet)) (answerNumber (orElseLines files lines)) (answerLine (orElseLines files lines))
-    go (Refused k line) lines h g refused = h (lineCount (f .sheet))
-    go Accepted (Refused k line) h g refused = inr g
-    go Accepted Accepted h g refused = absurd (refused refl)
+answer-within f room =
+    both-within (lineCount (f .sheet)) (byFiles f room) (byLines (lineCount (f .sheet)) (lineOutcome f)) (files-within f room) (lines-within (lineCount (f .sheet)) (lineOutcome f))
+
+numbered : (n : ℕ) (r : Outcome) → Within n r → r ≢ Accepted → Numbered n (answerNumber r) (answerLine r)
+numbered n Accepted h refused = absurd (refused refl)
+numbered n (RefusedFile k) h refused = file-numbered n k
+numbered n (RefusedLine k line) h refused = let rule = line-rules k in inr (record { first = rule .0; last = rule .1; some = h .0; within = h .1 })
 
 -- an answer's line is one of a good sheet, or 0
 pub answer-line-small : (f : Lent) (room : ℕ) → answerLine (answerOf f room) ≤ mostLines
 unfolding answerOf
 answer-line-small f room =
-    go (byFiles f room) (byLines (lineCount (f .sheet)) (lineOutcome f)) refl (files-numbered f room) (lines-numbered (lineCount (f .sheet)) (lineOutcome f))
+    go (byFiles f room) (byLines (lineCount (f .sheet)) (lineOutcome f)) refl (files-within f room) (lines-within (lineCount (f .sheet)) (lineOutcome f))
   where
-    go : (files lines : Outcome) → byFiles f room ≡ files → FileOf files → LineOf (lineCount (f .sheet)) lines
+    go : (files lines : Outcome) → byFiles f room ≡ files → Within 0 files → Within (lineCount (f .sheet)) lines
         → answerLine (orElseLines files lines) ≤ mostLines
-    go (Refused k line) lines e h g =
-        ⊎-elim (λ (p : OfFile _ line). omega (arith, p .none)) (λ (p : OfLine 0 _ line). absurd (omega (arith, p .some, p .within))) (h 0)
-    go Accepted (Refused k line) e h g = omega (arith, g .within, lines-few (f .sheet) (ready f room e .sheet))
+    go (RefusedFile k) lines e h g = omega arith
+    go (RefusedLine k line) lines e h g = absurd (omega (arith, h .0, h .1))
     go Accepted Accepted e h g = omega arith
+    go Accepted (RefusedFile k) e h g = omega arith
+    go Accepted (RefusedLine k line) e h g = omega (arith, g .1, lines-few (f .sheet) (ready f room e .sheet))
 
 -- ---- demand 2: a line that gives a row
 
@@ -177,7 +173,8 @@ account-demand b line given good h =
 both-given : (r : Outcome) (o : LineOutcome) (n : ℕ) → orLine r o n ≡ Accepted → (r ≡ Accepted) × ((row : TableRow) × (o ≡ Given row))
 both-given Accepted (Given row) n h = (refl, (row, refl))
 both-given Accepted (Refusal k) n h = clash (cc)
-both-given (Refused k line) o n h = clash (cc)
+both-given (RefusedFile k) o n h = clash (cc)
+both-given (RefusedLine k line) o n h = clash (cc)
 
 all-given : (n : ℕ) (l : ℕ → LineOutcome) → byLines n l ≡ Accepted → (i : ℕ) → i < n → (row : TableRow) × (l i ≡ Given row)
 unfolding byLines
@@ -188,7 +185,8 @@ all-given (suc n) l h i k =
 
 accepted-both : (files lines : Outcome) → orElseLines files lines ≡ Accepted → (files ≡ Accepted) × (lines ≡ Accepted)
 accepted-both Accepted lines h = (refl, h)
-accepted-both (Refused k line) lines h = clash (cc)
+accepted-both (RefusedFile k) lines h = clash (cc)
+accepted-both (RefusedLine k line) lines h = clash (cc)
 
 accepted : (f : Lent) (room : ℕ) → answerOf f room ≡ Accepted → (byFiles f room ≡ Accepted) × (byLines (lineCount (f .sheet)) (lineOutcome f) ≡ Accepted)
 unfolding answerOf
@@ -265,10 +263,11 @@ module _ (f : Lent) (exact shown : List ℕ) (r : Outcome) (exact' shown' : List
       both-zero : (o : Outcome) → r ≡ o → (exact' ≡ replicate (length exact) 0) × (shown' ≡ replicate (length shown) 0)
       unfolding cellsAfter shownAfter
       both-zero Accepted e = absurd (no e)
-      both-zero (Refused k line) e = (rw e at (both .table), rw e at (both .shows))
+      both-zero (RefusedFile k) e = (rw e at (both .table), rw e at (both .shows))
+      both-zero (RefusedLine k line) e = (rw e at (both .table), rw e at (both .shows))
 
       is-numbered : OfFile (answerNumber r) (answerLine r) ⊎ OfLine (lineCount (f .sheet)) (answerNumber r) (answerLine r)
-      is-numbered = rw answer (answer-numbered f (min (length exact) (length shown)) (λ e. no (answer ∙ e)))
+      is-numbered = numbered _ r (rw answer (answer-within f (min (length exact) (length shown)))) no
 
     demand-1 : Demand1 f exact shown r exact' shown'
     demand-1 =

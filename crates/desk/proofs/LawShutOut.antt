@@ -3,9 +3,9 @@
 use Prim.Native.Nat.{ℕ, _+_, _<_}
 use mathlib.Core.Path.{_≡_, refl, sym, ap, _∙_}
 use mathlib.Core.List.{List, [], _∷_, _++_}
+use mathlib.Core.Logic.{_≢_}
 use native.Mathlib.Omega.{arith}
 use lib.ListN.{replicate}
-use Rattle.search.proofs.LawTest.{clash}
 use Rattle.search.specs.First.{first}
 use Rattle.search.specs.Test.{all, every}
 use Rattle.little.specs.Read.{u16At, u32At, u64At}
@@ -23,9 +23,8 @@ use Rattle.desk.specs.Lent.{Lent, lent}
 use Rattle.desk.specs.Account.{treatmentOf, generatedOf, accountOf, lineOutcome}
 use Rattle.desk.specs.Table.{rows, total, tableOf, byFiles, byLines, answerOf, cellsAfter}
 use Rattle.desk.specs.Declare.{Declared}
-use Rattle.desk.specs.declared.answer.Fault.{Fault}
 use Rattle.desk.specs.declared.answer.Outcome.{Outcome}
-use Rattle.desk.specs.declared.answer.Outcome.the-variants.{Accepted, Refused}
+use Rattle.desk.specs.declared.answer.Outcome.the-variants.{Accepted}
 
 -- a book of one row: particulates in gas of industry 3240, 1 g/t of product (100 units a kilogram), no techniques
 abbrev book : List ℕ
@@ -72,8 +71,8 @@ worked = (refl, refl, refl, refl, refl)
 -- ---- the versions
 
 -- one that refuses everything
-pub refuses-everything : (k : Fault) (n : ℕ) (x y : List ℕ) → Declared one-and-two cells cells (Refused k n) x y → ⊥
-refuses-everything k n x y p = let e : Refused k n ≡ Accepted = p .demand1 .answer ∙ worked .0 in clash (cc)
+pub refuses-everything : (r : Outcome) (x y : List ℕ) → r ≢ Accepted → Declared one-and-two cells cells r x y → ⊥
+refuses-everything r x y refused p = refused (p .demand1 .answer ∙ worked .0)
 
 module _ (r : Outcome) (x y : List ℕ) (p : Declared one-and-two cells cells r x y) where
   accepted : r ≡ Accepted

@@ -3,7 +3,9 @@ use Prim.Native.Nat.{ℕ, zero, suc, _+_, _*_, _-_, _≤_, _<_}
 use mathlib.Core.Path.{_≡_, refl}
 use mathlib.Core.Bool.{true}
 use mathlib.Core.List.{List, [], _∷_, _++_, append-assoc}
-use mathlib.Core.Logic.{⊎-elim}
+use mathlib.Core.Logic.{⊎-elim, _≢_}
+use denote.Enum.Declared.{tagOf}
+use types.Run.{OneOf}
 use native.Mathlib.Numerals.{add-one}
 use native.Mathlib.Nat.{not-suc-le-zero, le-of-suc-le-suc, eq-or-lt-of-le}
 use native.Mathlib.Omega.{arith}
@@ -20,18 +22,30 @@ use Rattle.desk.specs.Book.{bookOk}
 use Rattle.desk.specs.Sheet.{sheetHeader, sheetHeaderSize, sheetFits, sheetHeaderOk, linesOk, sheetOk, lineCount, mostLines}
 use Rattle.desk.specs.Cells.{width, tableSize, cellsOf, zeros, plus}
 use Rattle.desk.specs.Tally.{add}
-use Rattle.desk.specs.Table.{rowGiven, rows, total, tableOf, byFiles, byLines, cellsAfter}
+use Rattle.desk.specs.Table.{rowGiven, rows, total, tableOf, byFiles, byLines, orElseLines, cellsAfter}
 use Rattle.desk.specs.Inner.{Fitting, Ready}
-use Rattle.desk.specs.declared.answer.Fault.{Fault}
-use Rattle.desk.specs.declared.answer.Fault.the-variants.{Line}
 use Rattle.desk.specs.declared.answer.LineFault.{LineFault}
-use Rattle.desk.specs.declared.answer.Outcome.the-variants.{Accepted, Refused}
+use Rattle.desk.specs.declared.answer.Outcome.{Outcome}
+use Rattle.desk.specs.declared.answer.Outcome.the-variants.{Accepted, RefusedFile, RefusedLine}
+use Rattle.desk.proofs.answer.Outcome.{the-type}
 use Rattle.desk.specs.declared.account.LineOutcome.{LineOutcome}
 use Rattle.desk.specs.declared.account.LineOutcome.the-variants.{Given, Refusal}
 use Rattle.desk.specs.declared.cells.TableRow.{TableRow}
 use Rattle.desk.specs.declared.tally.Tally.{Tally}
 use Rattle.desk.proofs.LawAccount.{Balances, lineMost}
 use Rattle.desk.proofs.LawColumns.{zip, zip-at, Balanced, balanced-cell, balanced-more}
+
+-- an outcome whose case is not the first is a refusal
+pub refusal : (r : Outcome) → OneOf (1 ∷ 2 ∷ []) (tagOf the-type r) → r ≢ Accepted
+refusal Accepted h e = ⊎-elim (λ (z : _≡_ {A = ℕ} 0 1). clash z) (λ (z : _≡_ {A = ℕ} 0 2). omega arith) h
+refusal (RefusedFile k) h e = clash (cc)
+refusal (RefusedLine k line) h e = clash (cc)
+
+-- where the files are refused no line is looked at
+pub refused-first : (files lines : Outcome) → files ≢ Accepted → files ≡ orElseLines files lines
+refused-first Accepted lines refused = absurd (refused refl)
+refused-first (RefusedFile k) lines refused = refl
+refused-first (RefusedLine k line) lines refused = refl
 
 -- four stores fill a part of four cells
 pub four-sets : (l : List ℕ) (a b c d : ℕ) → length l ≡ 4 → set (set (set (set l 0 a) 1 b) 2 c) 3 d ≡ (a ∷ b ∷ c ∷ d ∷ [])
@@ -66,7 +80,7 @@ module _ (l : ℕ → LineOutcome) where
     unfolding byLines
     answer-step p = rw (add-one i, p, e)
 
-  pub answer-refused : (i n : ℕ) {k : LineFault} → l i ≡ Refusal k → byLines i l ≡ Accepted → i < n → Refused (Line k) (i + 1) ≡ byLines n l
+  pub answer-refused : (i n : ℕ) {k : LineFault} → l i ≡ Refusal k → byLines i l ≡ Accepted → i < n → RefusedLine k (i + 1) ≡ byLines n l
   unfolding byLines
   answer-refused i zero e p h = absurd (not-suc-le-zero h)
   answer-refused i (suc m) e p h =
@@ -74,9 +88,11 @@ module _ (l : ℕ → LineOutcome) where
 
   -- ---- the cells
 
-  pub refused-cells : (n : ℕ) (k : Fault) (m : ℕ) (c x : List ℕ) → x ≡ replicate (length c) 0 → x ≡ cellsAfter (Refused k m) n l c
+  pub refused-cells : (r : Outcome) (n : ℕ) (c x : List ℕ) → r ≢ Accepted → x ≡ replicate (length c) 0 → x ≡ cellsAfter r n l c
   unfolding cellsAfter
-  refused-cells n k m c x h = h
+  refused-cells Accepted n c x refused h = absurd (refused refl)
+  refused-cells (RefusedFile k) n c x refused h = h
+  refused-cells (RefusedLine k line) n c x refused h = h
 
   pub accepted-cells : (n : ℕ) (c x v : List ℕ) → x ≡ rows n l ++ drop (width * n) c → v ≡ cellsOf (total n l .sums)
       → putMid (width * n) (width * n + width - width * n) x v ≡ cellsAfter Accepted n l c

@@ -4,10 +4,8 @@ use Rattle.desk.specs.declared.answer.FileFault.{FileFault}
 use Rattle.desk.specs.declared.answer.FileFault.the-variants.{BookMalformed, SheetMalformed, ResultTooShort}
 use Rattle.desk.specs.declared.answer.LineFault.{LineFault}
 use Rattle.desk.specs.declared.answer.LineFault.the-variants as line
-use Rattle.desk.specs.declared.answer.Fault.{Fault}
-use Rattle.desk.specs.declared.answer.Fault.the-variants.{File, Line}
 use Rattle.desk.specs.declared.answer.Outcome.{Outcome}
-use Rattle.desk.specs.declared.answer.Outcome.the-variants.{Accepted, Refused}
+use Rattle.desk.specs.declared.answer.Outcome.the-variants.{Accepted, RefusedFile, RefusedLine}
 
 abbrev pub fileRule : FileFault → ℕ
 fileRule BookMalformed = 1
@@ -24,15 +22,13 @@ lineRule line.BadReading = 9
 lineRule line.ZeroDivisor = 10
 lineRule line.KAboveOne = 11
 
-abbrev pub ruleNumber : Fault → ℕ
-ruleNumber (File fault) = fileRule fault
-ruleNumber (Line fault) = lineRule fault
-
--- where nothing is refused both are 0
+-- where nothing is refused both are 0; a refusal that concerns no single line carries line 0
 abbrev pub answerNumber : Outcome → ℕ
 answerNumber Accepted = 0
-answerNumber (Refused fault line) = ruleNumber fault
+answerNumber (RefusedFile fault) = fileRule fault
+answerNumber (RefusedLine fault line) = lineRule fault
 
 abbrev pub answerLine : Outcome → ℕ
 answerLine Accepted = 0
-answerLine (Refused fault line) = line
+answerLine (RefusedFile fault) = 0
+answerLine (RefusedLine fault line) = line

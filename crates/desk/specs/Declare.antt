@@ -12,14 +12,15 @@ use Rattle.desk.specs.Unit.{unitOfSheet}
 use Rattle.desk.specs.Table.{tableOf, cellsAfter}
 use Rattle.desk.specs.Demands.{tableGrid, Demand1, Demand2, Demand3}
 use Rattle.desk.specs.declared.answer.Outcome.{Outcome}
-use Rattle.desk.specs.declared.answer.Outcome.the-variants.{Accepted, Refused}
+use Rattle.desk.specs.declared.answer.Outcome.the-variants.{Accepted, RefusedFile, RefusedLine}
 
 -- on acceptance the shown table, and past it what was there; on refusal zeros
 unfoldable pub shownAfter : (r : Outcome) (f : Lent) (cells : List ℕ) → List ℕ
 shownAfter Accepted f cells =
     shownTable (tableGrid (unitOfSheet (f .sheet)) (lineCount (f .sheet))) (tableOf (lineCount (f .sheet)) (lineOutcome f))
     ++ drop (tableSize (lineCount (f .sheet))) cells
-shownAfter (Refused fault line) f cells = replicate (length cells) 0
+shownAfter (RefusedFile fault) f cells = replicate (length cells) 0
+shownAfter (RefusedLine fault line) f cells = replicate (length cells) 0
 
 -- which tables both results hold after the answer r: every cell of them, by an equation
 pub record BothAfter (f : Lent) (exact shown : List ℕ) (r : Outcome) (exact' shown' : List ℕ) : Type 0 where

@@ -12,9 +12,8 @@ use Rattle.desk.specs.Account.{lineOutcome}
 use Rattle.desk.specs.Cells.{tableSize, cellsOf, zeros}
 use Rattle.desk.specs.Tally.{start, add}
 use Rattle.desk.specs.declared.answer.FileFault.the-variants.{BookMalformed, SheetMalformed, ResultTooShort}
-use Rattle.desk.specs.declared.answer.Fault.the-variants.{File, Line}
 use Rattle.desk.specs.declared.answer.Outcome.{Outcome}
-use Rattle.desk.specs.declared.answer.Outcome.the-variants.{Accepted, Refused}
+use Rattle.desk.specs.declared.answer.Outcome.the-variants.{Accepted, RefusedFile, RefusedLine}
 use Rattle.desk.specs.declared.account.LineOutcome.{LineOutcome}
 use Rattle.desk.specs.declared.account.LineOutcome.the-variants.{Given, Refusal}
 use Rattle.desk.specs.declared.cells.TableRow.{TableRow}
@@ -42,28 +41,30 @@ tableOf n l = rows n l ++ cellsOf (total n l .sums)
 
 -- room for the lines and the row of sums
 abbrev pub roomFor : (lines room : ℕ) → Outcome
-roomFor lines room = cond (leb (tableSize lines) room) Accepted (Refused (File ResultTooShort) 0)
+roomFor lines room = cond (leb (tableSize lines) room) Accepted (RefusedFile ResultTooShort)
 
 -- what is wrong with the book, the sheet, the room, in this order; for results of which the shortest has this room
 unfoldable pub byFiles : (f : Lent) (room : ℕ) → Outcome
 byFiles f room =
     cond (bookOk (f .book))
-    (cond (sheetOk (f .sheet)) (roomFor (lineCount (f .sheet)) room) (Refused (File SheetMalformed) 0))
-    (Refused (File BookMalformed) 0)
+    (cond (sheetOk (f .sheet)) (roomFor (lineCount (f .sheet)) room) (RefusedFile SheetMalformed))
+    (RefusedFile BookMalformed)
 
 -- the first refused line decides; lines count from 1
 abbrev pub orLine : (so-far : Outcome) (line : LineOutcome) (n : ℕ) → Outcome
-orLine (Refused fault line) o n = Refused fault line
 orLine Accepted (Given row) n = Accepted
-orLine Accepted (Refusal fault) n = Refused (Line fault) (n + 1)
+orLine Accepted (Refusal fault) n = RefusedLine fault (n + 1)
+orLine (RefusedFile fault) o n = RefusedFile fault
+orLine (RefusedLine fault line) o n = RefusedLine fault line
 
 unfoldable pub byLines : (n : ℕ) (l : ℕ → LineOutcome) → Outcome
 byLines zero l = Accepted
 byLines (suc n) l = orLine (byLines n l) (l n) n
 
 abbrev pub orElseLines : (files lines : Outcome) → Outcome
-orElseLines (Refused fault line) o = Refused fault line
 orElseLines Accepted o = o
+orElseLines (RefusedFile fault) o = RefusedFile fault
+orElseLines (RefusedLine fault line) o = RefusedLine fault line
 
 unfoldable pub answerOf : (f : Lent) (room : ℕ) → Outcome
 answerOf f room = orElseLines (byFiles f room) (byLines (lineCount (f .sheet)) (lineOutcome f))
@@ -73,7 +74,8 @@ answerOf f room = orElseLines (byFiles f room) (byLines (lineCount (f .sheet)) (
 -- on acceptance the table, and past it what was there; on refusal zeros
 unfoldable pub cellsAfter : (r : Outcome) (n : ℕ) (l : ℕ → LineOutcome) (cells : List ℕ) → List ℕ
 cellsAfter Accepted n l cells = tableOf n l ++ drop (tableSize n) cells
-cellsAfter (Refused fault line) n l cells = replicate (length cells) 0
+cellsAfter (RefusedFile fault) n l cells = replicate (length cells) 0
+cellsAfter (RefusedLine fault line) n l cells = replicate (length cells) 0
 
 -- the whole promise for the exact table alone
 pub record ExactTable (f : Lent) (cells : List ℕ) (r : Outcome) (after : List ℕ) : Type 0 where

@@ -1,6 +1,6 @@
 // What the desk answers: figures, or one refusal.
 ghost use mathlib.Core.Path.{_≡_};
-ghost use Rattle.desk.specs.Answer.{answerLine, answerNumber, fileRule, lineRule, ruleNumber};
+ghost use Rattle.desk.specs.Answer.{answerLine, answerNumber, fileRule, lineRule};
 
 // What is wrong with a whole file or a whole result, in the order in which it is looked for.
 pub enum FileFault {
@@ -21,15 +21,11 @@ pub enum LineFault {
     KAboveOne,
 }
 
-pub enum Fault {
-    File(FileFault),
-    Line(LineFault),
-}
-
-// Refused with what is wrong and the line, which is 0 where no single line is meant.
+// Refused with what is wrong; a line counts from 1.
 pub enum Outcome {
     Accepted,
-    Refused(Fault, u16),
+    RefusedFile(FileFault),
+    RefusedLine(LineFault, u16),
 }
 
 impl FileFault {
@@ -63,33 +59,15 @@ impl LineFault {
     }
 }
 
-impl Fault {
-    // The number of the broken rule, 1 to 11.
-    pub fn number(self) -> u16
-        ensures { λ r. ⌜ r ≡ ruleNumber self ⌝ }
-    {
-        match self {
-            Fault::File(fault) => fault.number(),
-            Fault::Line(fault) => fault.number(),
-        }
-    }
-}
-
 impl Outcome {
-    // A whole file or result is refused: no single line is meant.
-    pub(crate) fn refused_whole(fault: FileFault) -> Self
-        ensures { λ r. ⌜ r ≡ Outcome.Refused (Fault.File fault) 0 ⌝ }
-    {
-        Outcome::Refused(Fault::File(fault), 0)
-    }
-
     // The refusal's number; 0 where nothing is refused.
     pub fn number(self) -> u16
         ensures { λ r. ⌜ r ≡ answerNumber self ⌝ }
     {
         match self {
             Outcome::Accepted => 0,
-            Outcome::Refused(fault, _) => fault.number(),
+            Outcome::RefusedFile(fault) => fault.number(),
+            Outcome::RefusedLine(fault, _) => fault.number(),
         }
     }
 
@@ -99,7 +77,8 @@ impl Outcome {
     {
         match self {
             Outcome::Accepted => 0,
-            Outcome::Refused(_, line) => line,
+            Outcome::RefusedFile(_) => 0,
+            Outcome::RefusedLine(_, line) => line,
         }
     }
 }

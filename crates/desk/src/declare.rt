@@ -35,16 +35,13 @@ fn both_tables(book: &[u8], sheet: &[u8], exact: &mut [u64], shown: &mut [u64]) 
         (now (exact .entry)) (now (shown .entry)) r (now (exact .exit)) (now (shown .exit)) ⌝ }
 {
     let lines = line_count(sheet);
-    match fill(book, sheet, lines, exact) {
-        Outcome::Refused(fault, line) => {
-            clear(shown);
-            Outcome::Refused(fault, line)
-        }
-        Outcome::Accepted => {
-            show(unit_of(sheet), lines, exact, shown);
-            Outcome::Accepted
-        }
+    let outcome = fill(book, sheet, lines, exact);
+    if let Outcome::Accepted = outcome {
+        show(unit_of(sheet), lines, exact, shown);
+        return outcome;
     }
+    clear(shown);
+    outcome
 }
 
 // Figures, or one refusal, for a book and a sheet of any content and results of any size. Rule 3 is for either result, before any line
@@ -53,12 +50,11 @@ pub fn declare(book: &[u8], sheet: &[u8], exact: &mut [u64], shown: &mut [u64]) 
     ensures { λ r. ⌜ Declared (lent (now (book .entry)) (now (sheet .entry)))
         (now (exact .entry)) (now (shown .entry)) r (now (exact .exit)) (now (shown .exit)) ⌝ }
 {
-    match by_files(book, sheet, shorter(exact.len(), shown.len())) {
-        Outcome::Refused(fault, line) => {
-            clear(exact);
-            clear(shown);
-            Outcome::Refused(fault, line)
-        }
-        Outcome::Accepted => both_tables(book, sheet, exact, shown),
+    let refusal = by_files(book, sheet, shorter(exact.len(), shown.len()));
+    if let Outcome::Accepted = refusal {
+        return both_tables(book, sheet, exact, shown);
     }
+    clear(exact);
+    clear(shown);
+    refusal
 }

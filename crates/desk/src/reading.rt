@@ -63,11 +63,12 @@ fn ratio(n: u64, d: u64) -> Share
 fn hours_share(run: f64, production: f64) -> Share
     ensures { λ r. ⌜ r ≡ hoursShare run production ⌝ }
 {
+    let bad = Share::NoShare(LineFault::BadReading);
     let Taken::Is(n) = parts_of(run, MOST_HOURS) else {
-        return Share::NoShare(LineFault::BadReading);
+        return bad;
     };
     let Taken::Is(d) = parts_of(production, MOST_HOURS) else {
-        return Share::NoShare(LineFault::BadReading);
+        return bad;
     };
     ratio(n, d)
 }
@@ -75,14 +76,15 @@ fn hours_share(run: f64, production: f64) -> Share
 fn energy_share(e: EnergyReading) -> Share
     ensures { λ r. ⌜ r ≡ energyShare e ⌝ }
 {
+    let bad = Share::NoShare(LineFault::BadReading);
     let Taken::Is(kwh) = parts_of(e.kwh, MOST_KILOWATT_HOURS) else {
-        return Share::NoShare(LineFault::BadReading);
+        return bad;
     };
     let Taken::Is(kw) = parts_of(e.kw, MOST_KILOWATTS) else {
-        return Share::NoShare(LineFault::BadReading);
+        return bad;
     };
     let Taken::Is(hours) = parts_of(e.hours, MOST_HOURS) else {
-        return Share::NoShare(LineFault::BadReading);
+        return bad;
     };
     ratio(kwh * PARTS_PER_UNIT, kw * hours)
 }

@@ -7,7 +7,6 @@ ghost use Rattle.desk.specs.Table.{roomFor, byFiles, ExactTable};
 ghost use Rattle.desk.specs.Inner.{counted, Fillable, Filled};
 use super::account::LineOutcome;
 use super::account::line_outcome;
-use super::answer::Fault;
 use super::answer::FileFault;
 use super::answer::Outcome;
 use super::book::book_ok;
@@ -30,7 +29,7 @@ fn room_for(lines: usize, room: usize) -> Outcome
     if COLUMNS * (lines + 1) <= room {
         Outcome::Accepted
     } else {
-        Outcome::refused_whole(FileFault::ResultTooShort)
+        Outcome::RefusedFile(FileFault::ResultTooShort)
     }
 }
 
@@ -42,10 +41,10 @@ pub(crate) fn by_files(b: &[u8], s: &[u8], room: usize) -> Outcome
         if sheet_ok(s) {
             room_for(line_count(s), room)
         } else {
-            Outcome::refused_whole(FileFault::SheetMalformed)
+            Outcome::RefusedFile(FileFault::SheetMalformed)
         }
     } else {
-        Outcome::refused_whole(FileFault::BookMalformed)
+        Outcome::RefusedFile(FileFault::BookMalformed)
     }
 }
 
@@ -60,7 +59,7 @@ pub(crate) fn fill(b: &[u8], s: &[u8], lines: usize, exact: &mut [u64]) -> Outco
         match line_outcome(b, s, i) {
             LineOutcome::Refusal(fault) => {
                 clear(exact);
-                return Outcome::Refused(Fault::Line(fault), (i + 1) as u16);
+                return Outcome::RefusedLine(fault, (i + 1) as u16);
             }
             LineOutcome::Given(row) => {
                 let from = COLUMNS * i;
@@ -82,11 +81,10 @@ pub(crate) fn fill(b: &[u8], s: &[u8], lines: usize, exact: &mut [u64]) -> Outco
 pub fn exact_table(book: &[u8], sheet: &[u8], exact: &mut [u64]) -> Outcome
     ensures { λ r. ⌜ ExactTable (lent (now (book .entry)) (now (sheet .entry))) (now (exact .entry)) r (now (exact .exit)) ⌝ }
 {
-    match by_files(book, sheet, exact.len()) {
-        Outcome::Refused(fault, line) => {
-            clear(exact);
-            Outcome::Refused(fault, line)
-        }
-        Outcome::Accepted => fill(book, sheet, line_count(sheet), exact),
+    let refusal = by_files(book, sheet, exact.len());
+    if let Outcome::Accepted = refusal {
+        return fill(book, sheet, line_count(sheet), exact);
     }
+    clear(exact);
+    refusal
 }

@@ -2,9 +2,7 @@
 use mathlib.Core.Path.{sym, _∙_}
 use native.Mathlib.Omega.{arith}
 use borrow.Author.Needs.{needs}
-use Rattle.search.proofs.LawTest.{clash}
-use Rattle.desk.specs.Table.{cellsAfter}
-use Rattle.desk.proofs.LawTable.{lines-few}
+use Rattle.desk.proofs.LawTable.{refusal, lines-few}
 use Rattle.desk.proofs.LawDeclare.{showable, tables-shown, allows, both-refused}
 use Rattle.desk.proofs.declare.both_tables.Statement.{statement}
 use Rattle.desk.proofs.declare.both_tables.Tie as tie
@@ -24,19 +22,7 @@ show-requires c κs =
     showable _ (ready .book) (ready .sheet) _ _ _ _ lines (c .before .before .unit-of .ensures) accepted _ (omega (arith, ready .fits))
 
 returns : tie.Need-returns
-unfolding cellsAfter
 returns c =
-    let lines = c .before .before .before .before .before .before .before .before .before .before .before .line-count .ensures .eq in
-    let filled = rw lines at (c .before .before .before .before .before .before .before .before .before .fill .ensures) in
-    let refused = c .before .before .before .before .before .fault .given .1 in
-    record {
-      answer = sym refused ∙ filled .answer;
-      tables = both-refused _ _ _ _ _ _ _ (rw refused at (filled .table)) (c .before .before .clear .ensures);
-      allowed = λ accepted. clash (cc);
-    }
-
-returns-2 : tie.Need-returns-2
-returns-2 c =
     let ready = c .before .before .before .before .before .before .before .before .before .before .before .before .before .before .before .before .before .pre in
     let lines = c .before .before .before .before .before .before .before .before .before .before .before .before .line-count .ensures .eq in
     let filled = rw lines at (c .before .before .before .before .before .before .before .before .before .before .fill .ensures) in
@@ -44,14 +30,25 @@ returns-2 c =
     let accepted = rw told at (filled .table) in
     let unit = c .before .before .before .before .before .unit-of .ensures in
     let shown = c .before .before .show .ensures in
-    record {
+    rw told
+    (record {
       answer = sym told ∙ filled .answer;
       tables = tables-shown _ (ready .book) (ready .sheet) _ _ _ _ lines unit accepted _ _ shown;
       allowed = λ _. allows _ (ready .book) (ready .sheet) _ _ _ _ lines unit accepted _ _ shown;
+    })
+
+returns-2 : tie.Need-returns-2
+returns-2 c =
+    let filled = rw (c .before .before .before .before .before .before .before .before .before .line-count .ensures .eq) at (c .before .before .before .before .before .before .before .fill .ensures) in
+    let no = refusal (c .before .before .before .before .before .before .before .fill .result) (c .before .before .before .before .match .keys2) in
+    record {
+      answer = filled .answer;
+      tables = both-refused _ _ _ _ _ _ no (filled .table) (c .before .before .clear .ensures);
+      allowed = λ accepted. absurd (no accepted);
     }
 
 pub both-tables-spec : {M : Type 1} → statement M
 both-tables-spec =
     tie.close
-    (tie.spec (λ c κs. search needs) fill-requires (λ c. search needs) (λ c κs. search needs) (λ c. search needs) (λ c κs. search needs)
-    show-requires (λ c. search needs) (λ c. search needs) returns (λ c. search needs) (λ c. search needs) returns-2)
+    (tie.spec (λ c κs. search needs) fill-requires (λ c. search needs) (λ c κs. search needs) show-requires (λ c. search needs)
+    (λ c. search needs) returns (λ c κs. search needs) (λ c. search needs) (λ c. search needs) returns-2)

@@ -1,9 +1,8 @@
 -- What the files are refused for decides, and where it is nothing the lines do.
 use mathlib.Core.Path.{sym, _∙_}
 use borrow.Author.Needs.{needs}
-use Rattle.search.proofs.LawTest.{clash}
 use Rattle.desk.specs.Table.{answerOf}
-use Rattle.desk.proofs.LawTable.{ready}
+use Rattle.desk.proofs.LawTable.{refusal, refused-first, refused-cells, ready}
 use Rattle.desk.proofs.LawDeclare.{both-refused}
 use Rattle.desk.proofs.LawDemands.{declared}
 use Rattle.desk.proofs.declare.declare.Statement.{statement}
@@ -15,23 +14,24 @@ both-tables-requires c κs = rw (c .before .before .before .before .before .shor
 returns : tie.Need-returns
 unfolding answerOf
 returns c =
-    let room = c .before .before .before .before .before .before .before .before .before .before .before .before .shorter .ensures in
-    let files = c .before .before .before .before .before .before .before .before .before .before .before .by-files .ensures in
-    declared _ _ _ _ _ _ (rw (← room, ← files, c .before .before .before .before .before .before .before .before .before .fault .given .1))
-    (both-refused _ _ _ _ _ _ _ (c .before .before .before .before .before .before .clear .ensures) (c .before .before .clear2 .ensures))
-    (λ accepted. clash (cc))
+    let room = c .before .before .before .before .before .before .before .before .before .before .shorter .ensures in
+    let files = c .before .before .before .before .before .before .before .before .before .by-files .ensures in
+    let told = c .before .before .before .before .before .before .before .enum-told .given .1 in
+    let lines = c .before .before .before .before .both-tables .ensures in
+    declared _ _ _ _ _ _ (rw (← room, ← files, told) (lines .answer)) (lines .tables) (lines .allowed)
 
 returns-2 : tie.Need-returns-2
 unfolding answerOf
 returns-2 c =
     let room = c .before .before .before .before .before .before .before .before .before .before .shorter .ensures in
-    let files = c .before .before .before .before .before .before .before .before .before .by-files .ensures in
-    let lines = c .before .before .before .before .both-tables .ensures in
-    declared _ _ _ _ _ _ (rw (← room, ← files, c .before .before .before .before .before .before .before .enum-told .given .1) (lines .answer)) (lines .tables) (lines .allowed)
+    let files = c .before .before .before .before .before .before .before .before .before .by-files in
+    let no = refusal (files .result) (c .before .before .before .before .before .before .before .before .match .keys2) in
+    declared _ _ _ _ _ _ (rw (← room, ← files .ensures) (refused-first _ _ no))
+    (both-refused _ _ _ _ _ _ no (refused-cells _ _ _ _ _ no (c .before .before .before .before .before .before .clear .ensures)) (c .before .before .clear2 .ensures))
+    (λ accepted. absurd (no accepted))
 
 pub declare-spec : {M : Type 1} → statement M
 declare-spec =
     tie.close
-    (tie.spec (λ c κs. search needs) (λ c κs. search needs) (λ c. search needs) (λ c κs. search needs) (λ c κs. search needs)
-    (λ c. search needs) both-tables-requires (λ c. search needs) (λ c. search needs) returns (λ c. search needs) (λ c. search needs)
-    returns-2)
+    (tie.spec (λ c κs. search needs) (λ c κs. search needs) (λ c. search needs) both-tables-requires (λ c. search needs)
+    (λ c. search needs) returns (λ c κs. search needs) (λ c κs. search needs) (λ c. search needs) (λ c. search needs) returns-2)

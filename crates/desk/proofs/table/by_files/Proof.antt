@@ -14,14 +14,13 @@ returns c =
 
 returns-2 : tie.Need-returns-2
 unfolding byFiles
-returns-2 c = rw (← c .before .before .before .before .book-ok .ensures, c .before .before .before .if1 .taken, ← c .before .before .sheet-ok .ensures, c .before .if2 .left) (c .refused-whole .ensures)
+returns-2 c = rw (← c .before .before .before .book-ok .ensures, c .before .before .if1 .taken, ← c .before .sheet-ok .ensures, c .if2 .left)
 
 returns-3 : tie.Need-returns-3
 unfolding byFiles
-returns-3 c = rw (← c .before .before .book-ok .ensures, c .before .if1 .left) (c .refused-whole2 .ensures)
+returns-3 c = rw (← c .before .book-ok .ensures, c .if1 .left)
 
 pub by-files-spec : {M : Type 1} → statement M
 by-files-spec =
     tie.close
-    (tie.spec (λ c κs. search needs) (λ c κs. search needs) (λ c κs. search needs) (λ c κs. search needs) (λ c κs. search needs)
-    (λ c κs. search needs) returns returns-2 returns-3)
+    (tie.spec (λ c κs. search needs) (λ c κs. search needs) (λ c κs. search needs) (λ c κs. search needs) returns returns-2 returns-3)

@@ -8,6 +8,7 @@ use borrow.Author.Needs.{needs}
 use denote.Ref.{now}
 use Rattle.desk.specs.declared.answer.Outcome.the-variants.{Accepted}
 use Rattle.desk.specs.Table.{rows, total, byLines}
+use Rattle.search.proofs.LawTest.{clash}
 use Rattle.desk.specs.Cells.{width, cellsOf}
 use Rattle.desk.specs.Lent.{lent}
 use Rattle.desk.specs.declared.tally.Tally.{Tally}
@@ -41,7 +42,7 @@ returns c =
     let clear = c .before .before .clear in
     record {
       answer = answer-refused _ _ _ (sym (line-outcome .ensures) ∙ fault .given .1) (loop .inv .4) (loop-test .taken);
-      table = refused-cells _ _ _ _ _ _ (clear .ensures ∙ ap (λ (m : ℕ). replicate m 0) (loop .inv .1));
+      table = refused-cells _ _ _ _ _ (λ e. clash (cc)) (clear .ensures ∙ ap (λ (m : ℕ). replicate m 0) (loop .inv .1));
     }
 
 add-requires : tie.Need-add-requires Inv-loop μ-loop

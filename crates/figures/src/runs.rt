@@ -9,20 +9,15 @@ use desk::house::MOST_BYTES;
 use desk::sheet::line_count;
 use desk::table::MOST_CELLS;
 
-// A row's first words: its line, counted from 1, or `total` past the last one.
-fn label(name: &[u8], row: usize, lines: usize) {
-    say(name);
-    if row < lines {
-        number((row + 1) as u64);
-    } else {
-        say(b" total");
-    }
-}
-
-// One cell, with what stands before the first of a row and after the last.
+// One cell. Before the first of a row stands its line, counted from 1, or `total`.
 fn cell(name: &[u8], cells: &[u64], at: usize, lines: usize) {
     if at % COLUMNS == 0 {
-        label(name, at / COLUMNS, lines);
+        say(name);
+        if at / COLUMNS < lines {
+            number((at / COLUMNS + 1) as u64);
+        } else {
+            say(b" total");
+        }
     }
     if at < cells.len() {
         number(cells[at]);

@@ -34,13 +34,9 @@ pub(crate) fn readings() {
     reading(b"NaN", from_bits(0x7ff8_0000_0000_0000));
 }
 
-// x, n, d and the whole part of x · n / d.
+// The whole part of x · n / d.
 fn scaled(x: u64, n: u64, d: u64) {
     say(b"scaled");
-    number(x);
-    number(n);
-    number(d);
-    say(b" gives");
     match amounts::scaling::scaled(x, n, d) {
         Portion::Is(q) => number(q),
         Portion::Bad => say(b" bad"),
@@ -62,18 +58,12 @@ pub(crate) fn scalings() {
     scaled(1, 2, 1);
 }
 
-// The columns of the paper's table: G, efficiency, k as n over d, reuse; then R, U and D. In water.
+// G, R, U and D of a line in water, from the columns of the paper's table: G, efficiency, k as n over d, reuse.
 fn line(generated: u64, efficiency: u64, n: u64, d: u64, reuse: u64) {
     say(b"line");
-    number(generated);
-    number(efficiency);
-    number(n);
-    say(b" /");
-    number(d);
-    number(reuse);
-    say(b" gives");
     match work(generated, efficiency, n, d, reuse, true) {
         Worked::Line(a) => {
+            number(a.generated);
             number(a.removed);
             number(a.reused);
             number(a.discharged);

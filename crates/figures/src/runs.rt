@@ -27,7 +27,10 @@ fn cell(name: &[u8], cells: &[u64], at: usize, lines: usize) {
     }
 }
 
-fn table(name: &[u8], cells: &[u64], count: usize, lines: usize) {
+// A row for each of the sheet's lines, and one for the sums.
+fn table(name: &[u8], cells: &[u64], sheet: &[u8]) {
+    let lines = line_count(sheet);
+    let count = COLUMNS * (lines + 1);
     let mut at = 0;
     while at < count {
         cell(name, cells, at, lines);
@@ -35,21 +38,17 @@ fn table(name: &[u8], cells: &[u64], count: usize, lines: usize) {
     }
 }
 
-fn tables(sheet: &[u8], exact: &[u64], shown: &[u64]) {
-    let lines = line_count(sheet);
-    let count = COLUMNS * (lines + 1);
-    table(b"exact", exact, count, lines);
-    say(b"unit");
-    number(unit_of(sheet));
-    say(b"\n");
-    table(b"shown", shown, count, lines);
-}
-
 fn answer(book: &[u8], sheet: &[u8]) {
     let mut exact = [0u64; MOST_CELLS];
     let mut shown = [0u64; MOST_CELLS];
     match declare(book, sheet, &mut exact, &mut shown) {
-        Outcome::Accepted => tables(sheet, &exact, &shown),
+        Outcome::Accepted => {
+            table(b"exact", &exact, sheet);
+            say(b"unit");
+            number(unit_of(sheet));
+            say(b"\n");
+            table(b"shown", &shown, sheet);
+        }
         Outcome::Refused(fault, line) => {
             say(b"refused");
             number(fault.number() as u64);

@@ -5,10 +5,10 @@ use Rattle.figures.proofs.runs.table.Statement.{statement}
 use Rattle.figures.proofs.runs.table.Tie as tie
 
 abbrev Inv-loop : tie.InvT-loop
-Inv-loop name cells count lines at₀ at = at ≤ count
+Inv-loop name cells sheet lines count at₀ at = at ≤ count
 
 abbrev μ-loop : tie.MeasureT-loop
-μ-loop name cells count lines at₀ at = count - at
+μ-loop name cells sheet lines count at₀ at = count - at
 
 pub table-spec : {M : Type 1} → statement M
 table-spec =
@@ -16,6 +16,9 @@ table-spec =
     (tie.spec
     Inv-loop
     μ-loop
+    (λ c κs. search needs)
+    (λ c. search needs)
+    (λ c. search needs)
     (λ c. search needs)
     (λ c κs. search needs)
     (λ c. search needs)

@@ -3,6 +3,8 @@
 use peer::compare::{run_proved, Case, Tally};
 use peer::make::{Book, Line, Row, Sheet, Technique};
 use peer::print::whole_output;
+use std::path::Path;
+use std::process::Command;
 
 /// Coefficient digits and places in kg/t, activity in kg: together G.
 struct Amount {
@@ -174,4 +176,81 @@ shown 1 3307200 2315040 942552 49608
 shown total 3307200 2315040 942552 49608
 ";
     assert_eq!(text, expected);
+}
+
+/// Every loose cell has one other in its row and one in its column, so that
+/// all of them, six or eight, turn together.
+#[test]
+fn rounds_of_six_and_eight_cells() {
+    let mut tally = Tally::new("rounds_of_six_and_eight_cells");
+    let row = Row { places: 5, ..Row::plain(1, 1, 1) };
+    let book = Book {
+        rows: vec![row.with_techniques(1, 0, 2)],
+        techniques: [(1, 500), (2, 1000)]
+            .map(|(code, efficiency)| Technique { code, efficiency })
+            .to_vec(),
+        gaps: [0; 3],
+    };
+    let line = |kilograms, technique, reuse| Line {
+        reuse,
+        ..Line::direct(kilograms).treated(technique, 3, [0.0; 3])
+    };
+    let to_removed_and_reused = line(100_000, 1, 1000);
+    let to_reused_and_discharged = line(100_000, 0, 500);
+    let to_removed_and_discharged = line(100_000, 1, 0);
+    let six = [to_removed_and_reused, to_reused_and_discharged, to_removed_and_discharged];
+    let eight = [six[0], six[1], line(50_000, 0, 0), line(50_000, 2, 0)];
+    for (lines, loose) in [(six.to_vec(), 6), (eight.to_vec(), 8)] {
+        let cells = 4 * (lines.len() + 1);
+        let case = Case::of(&book, &Sheet::new(1, 1, 1, lines));
+        tally.expect_accepted(&case);
+        let filled = run_proved(&case).expect("the memory around is kept");
+        let halves = filled.exact[..cells].iter().filter(|cell| *cell % 100_000 == 50_000);
+        assert_eq!(halves.count(), loose);
+        assert_eq!(filled.shown[cells - 4..cells], [3, 1, 1, 1]);
+    }
+}
+
+/// The most that can be generated, k at 1 or just below it, and divisors of
+/// each length that a reading can make.
+#[test]
+fn shares_by_divisors_of_every_length() {
+    let mut tally = Tally::new("shares_by_divisors_of_every_length");
+    for rated in [0.001f64, 0.07, 1.3, 64.0, 999.999, 1024.0, 10_000.0] {
+        for hours in [0.01, 1.0, 77.7, 1000.0, 8783.999, 8784.0] {
+            let energy = (rated * hours * 1000.0).floor() / 1000.0;
+            let figure = Figure {
+                amount: Amount { digits: 1000, places: 0, kilograms: 1_000_000_000 },
+                efficiency: 999,
+                reading: (2, [energy.min(10_000_000.0), rated, hours]),
+                reuse: 0,
+                expected: [0; 4],
+            };
+            tally.expect_accepted(&case(&figure, 1));
+        }
+    }
+}
+
+const UP_TO_DATE: &str = "
+import pathlib, runpy, sys
+files_of = runpy.run_path(sys.argv[1])['files_of']
+for listing in pathlib.Path(sys.argv[2]).glob('*/listing.txt'):
+    for name, content in files_of(listing.read_text(encoding='utf-8')).items():
+        assert (listing.parent / name).read_bytes() == content, (listing, name)
+";
+
+/// The folders that the proved program `figures` runs over are what their
+/// listings say, and the plain desk answers the same.
+#[test]
+fn the_folders_of_the_figures() {
+    let mut tally = Tally::new("the_folders_of_the_figures");
+    let top = Path::new(env!("CARGO_MANIFEST_DIR")).join("..");
+    let data = top.join("crates/figures/data");
+    let mut python = Command::new("python3");
+    python.args(["-c", UP_TO_DATE]).arg(top.join("examples/make")).arg(&data);
+    let made = python.status().expect("python3 is there").success();
+    assert!(made, "stale files: copy examples/make beside the folders and run it there");
+    for folder in data.read_dir().expect("the folders are there").flatten() {
+        tally.agree(&Case::read(&folder.path()).expect("a folder has both files"));
+    }
 }

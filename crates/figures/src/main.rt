@@ -1,9 +1,6 @@
-// The paper's figures, worked and printed.
-mod demand;
-mod make;
+// The paper's figures, worked and printed: those of the amounts first, then runs of the desk over the folders of data/.
 mod print;
 mod runs;
-mod shown;
 mod worked;
 
 fn main() {
@@ -11,10 +8,4 @@ fn main() {
     worked::scalings();
     worked::lines();
     runs::runs();
-    runs::refusals();
-    shown::halves();
-    shown::nearest();
-    shown::units();
-    shown::rounds();
-    shown::longest();
 }

@@ -1,4 +1,4 @@
-// The desk over the folders of data/: each has a book and a sheet, and the listing that both were made from by `examples/make`.
+// The desk over the folders of data/: each has a book and a sheet, and the listing that `make-files` made both from, or what was changed.
 use super::print::number;
 use super::print::say;
 use desk::answer::Outcome;

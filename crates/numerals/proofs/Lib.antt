@@ -1,0 +1,2 @@
+pub mod LawLaid
+pub mod LawNumeral

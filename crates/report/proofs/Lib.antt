@@ -1,0 +1,2 @@
+pub mod LawPut
+pub mod LawTold

@@ -1,22 +1,21 @@
 -- What is told is the report: a refusal by its number and line, and figures by the two tables, which are the first cells of the results.
-use Prim.Native.Nat.{ℕ, _+_, _≤_, _<_}
-use mathlib.Core.Path.{_≡_, refl, sym, ap, _∙_}
-use mathlib.Core.List.{List, _++_}
+use Prim.Native.Nat.{ℕ, _≤_, _<_}
+use mathlib.Core.Path.{_≡_, refl, ap, _∙_}
+use mathlib.Core.List.{List}
 use native.Mathlib.Omega.{arith}
 use lib.ListN.{length, take, drop, replicate}
 use lib.Seq.{take-at}
 use borrow.Author.Tests.{le-leb, lt-leb}
 use Rattle.search.proofs.LawTest.{clash}
 use Rattle.numerals.proofs.LawLaid.{length-laid, laid-is}
-use Rattle.settle.specs.Step.{shownTable}
 use Rattle.settle.proofs.LawShown.{shown-length}
 use Rattle.desk.specs.Lent.{Lent}
 use Rattle.desk.specs.Sheet.{lineCount, mostLines}
 use Rattle.desk.specs.Account.{lineOutcome}
-use Rattle.desk.specs.Cells.{width, tableSize}
+use Rattle.desk.specs.Cells.{tableSize}
 use Rattle.desk.specs.Unit.{unitOfSheet}
 use Rattle.desk.specs.Answer.{ruleNumber}
-use Rattle.desk.specs.Table.{tableOf, byFiles, byLines, orElseLines, answerOf, cellsAfter}
+use Rattle.desk.specs.Table.{byFiles, byLines, orElseLines, answerOf}
 use Rattle.desk.specs.Declare.{shownAfter, Declared}
 use Rattle.desk.specs.Inner.{Ready}
 use Rattle.desk.specs.declared.answer.Fault.{Fault}
@@ -24,9 +23,9 @@ use Rattle.desk.specs.declared.answer.Outcome.{Outcome}
 use Rattle.desk.specs.declared.answer.Outcome.the-variants.{Accepted, Refused}
 use Rattle.desk.proofs.LawTable.{ready, lines-few}
 use Rattle.desk.proofs.LawDeclare.{first-cells, settles}
-use Rattle.report.specs.declared.Written.{Written}
 use Rattle.report.specs.declared.Written.the-variants.{Bytes, Short}
-use Rattle.report.specs.Report.{figuresText, refusalText, mostCells, exactOf, shownOf, reportFor, reportOf, mostText, writtenOf, textAfter, Reported}
+use Rattle.report.specs.Report.{figuresText, refusalText, mostCells, exactOf, shownOf, reportFor, reportOf}
+use Rattle.report.specs.Report.{mostText, writtenOf, textAfter, Reported}
 use Rattle.report.specs.Inner.{mostRefusal, Puts}
 use Rattle.report.proofs.LawPut.{more}
 
@@ -87,17 +86,3 @@ module _ (f : Lent) where
     no-room p h cleared zero =
         let room : length text < length (reportOf f) = omega (arith, p .ends, same-size p) in
         record { fits = p .few; answer = rw (lt-leb _ _ room); holds = rw (same-size p) at zero }
-
--- two outcomes that the promise allows are equal
-pub reported-once : (f : Lent) (text : List ℕ) (r q : Written) (x y : List ℕ) → Reported f text r x → Reported f text q y → (r ≡ q) × (x ≡ y)
-reported-once f text r q x y p h =
-    let e : r ≡ q = p .answer ∙ sym (h .answer) in
-    (e, p .holds ∙ ap (λ (w : Written). textAfter w (reportOf f) text) e ∙ sym (h .holds))
-
--- a text with room for every report has it
-pub always-room : (f : Lent) (text : List ℕ) (r : Written) (text' : List ℕ) → Reported f text r text' → mostText ≤ length text
-    → r ≡ Bytes (length (reportOf f))
-unfolding writtenOf
-always-room f text r text' p h =
-    let room : length (reportOf f) ≤ length text = omega (arith, p .fits) in
-    rw (p .answer, le-leb _ _ room)

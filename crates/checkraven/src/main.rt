@@ -39,7 +39,10 @@ fn print(text: &[u8]) {
     if io::write_all(STDOUT_FILENO, text) {
         return;
     }
-    io::write_all(STDERR_FILENO, b"checkraven: the report could not be written\n");
+    io::write_all(
+        STDERR_FILENO,
+        b"checkraven: the report could not be written\n",
+    );
 }
 
 // One byte more than the limit is read, so that a longer file is refused and not cut.

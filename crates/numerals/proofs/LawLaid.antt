@@ -40,7 +40,7 @@ pub laid-step : (at i : ℕ) (bytes text : List ℕ) {x : List ℕ} → i < leng
 laid-step at i bytes text {x} h e =
     let size : length (take i bytes) ≡ i = length-take-le i bytes (omega arith) in
     let more : laid (at + length (take i bytes)) (getD bytes i 0 ∷ []) (laid at (take i bytes) text)
-        ≡ laid at (take i bytes ++ (getD bytes i 0 ∷ [])) text =
+    ≡ laid at (take i bytes ++ (getD bytes i 0 ∷ [])) text =
     laid-more at (take i bytes) (getD bytes i 0 ∷ []) text in
     rw (e, add-one, take-suc bytes i 0 h) (rw size at more)
 

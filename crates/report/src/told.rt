@@ -49,7 +49,13 @@ pub(crate) fn told(book: &[u8], sheet: &[u8], text: &mut [u8]) -> usize
         Outcome::Accepted => {
             let lines = line_count(sheet);
             let cells = COLUMNS * (lines + 1);
-            figures(text, lines, unit_of(sheet), &exact[..cells], &shown[..cells])
+            figures(
+                text,
+                lines,
+                unit_of(sheet),
+                &exact[..cells],
+                &shown[..cells],
+            )
         }
     }
 }

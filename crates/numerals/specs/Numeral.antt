@@ -1,5 +1,5 @@
 -- A number's decimal numeral, in ASCII. Assumes nothing.
-use Prim.Native.Nat.{ℕ, zero, suc, _+_, _/_, _%_, _≤_}
+use Prim.Native.Nat.{ℕ, zero, suc, _+_, _-_, _*_, _/_, _%_, _≤_}
 use mathlib.Core.Path.{_≡_}
 use mathlib.Core.Bool.{cond}
 use mathlib.Core.List.{List, [], _∷_, _++_}
@@ -26,6 +26,11 @@ significant (suc most) n = cond (eqb n 0) [] (significant most (n / 10) ++ (digi
 -- 0 is written `0`, and any other number by its digits
 unfoldable pub numeral : (n : ℕ) → List ℕ
 numeral n = cond (eqb n 0) (zeroDigit ∷ []) (significant mostDigits n)
+
+-- the number that digits are read as, behind what was read so far
+unfoldable pub valueOf : (so-far : ℕ) (digits : List ℕ) → ℕ
+valueOf so-far [] = so-far
+valueOf so-far (d ∷ digits) = valueOf (10 * so-far + (d - zeroDigit)) digits
 
 -- the list is these digits from r on
 pub record Ends (digits : List ℕ) (r : ℕ) (list : List ℕ) : Type 0 where

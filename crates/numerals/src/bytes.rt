@@ -35,7 +35,7 @@ pub fn clear(text: &mut [u8])
 {
     let mut i = 0;
     while i < text.len() {
-        text[i] = 0;
+        lay_one(text, 0, i, 0);
         i += 1;
     }
 }

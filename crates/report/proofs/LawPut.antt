@@ -8,8 +8,8 @@ use native.Mathlib.Omega.{arith}
 use lib.ListN.{length, length-append}
 use Rattle.numerals.specs.Laid.{laid, Lays}
 use Rattle.numerals.proofs.LawLaid.{laid-none, laid-more}
-use Rattle.report.specs.Report.{numberText, rowText, linesText, tableText, totalWord}
-use Rattle.report.specs.Inner.{mostRow, Puts}
+use Rattle.report.specs.Report.{mostRow, numberText, rowText, linesText}
+use Rattle.report.specs.Inner.{Puts}
 
 -- bytes that were laid at a place, and counted from it on
 pub from-place : {bytes text text' : List ℕ} {most at r : ℕ} → Lays bytes most at text r text' → Puts bytes most at text (at + r) text'

@@ -1,12 +1,11 @@
 -- What private functions ask and answer, beside what a promise says. Nothing here is needed to read a promise.
-use Prim.Native.Nat.{ℕ, _+_, _*_, _≤_, _<_}
+use Prim.Native.Nat.{ℕ, _+_, _≤_, _<_}
 use mathlib.Core.Path.{_≡_}
 use mathlib.Core.List.{List}
 use lib.ListN.{length}
 use Rattle.little.specs.Read.{u16Range}
 use Rattle.numerals.specs.Laid.{laid}
-use Rattle.numerals.specs.Numeral.{mostDigits}
-use Rattle.desk.specs.Cells.{width}
+use Rattle.report.specs.Report.{exactWord, refusedWord, lineWord, lineEnd, mostNumber}
 
 -- what a u16 counts is below it
 abbrev pub counted : ℕ
@@ -18,20 +17,11 @@ reach = 4_294_967_296
 
 -- the letters of a table's name
 abbrev pub nameSize : ℕ
-nameSize = 5
+nameSize = length exactWord
 
--- bytes, at most
-abbrev pub mostNumber : ℕ
-mostNumber = 1 + mostDigits
-
-abbrev pub mostAmounts : ℕ
-mostAmounts = width * mostNumber + 1
-
-abbrev pub mostRow : ℕ
-mostRow = nameSize + mostNumber + mostAmounts
-
+-- bytes of a refusal, at most
 abbrev pub mostRefusal : ℕ
-mostRefusal = 7 + mostNumber + 5 + mostNumber + 1
+mostRefusal = length refusedWord + mostNumber + length lineWord + mostNumber + length lineEnd
 
 -- r is the place where these bytes end, of which there are at most so many, and the text afterwards has them laid into it
 pub record Puts (bytes : List ℕ) (most at : ℕ) (text : List ℕ) (r : ℕ) (text' : List ℕ) : Type 0 where

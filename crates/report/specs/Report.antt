@@ -62,7 +62,11 @@ numberText n = space ++ numeral n
 -- G, R, U, D of row i, counted from 0
 unfoldable pub amountsText : (cells : List ℕ) (i : ℕ) → List ℕ
 amountsText cells i =
-    numberText (cellAt cells i 0) ++ numberText (cellAt cells i 1) ++ numberText (cellAt cells i 2) ++ numberText (cellAt cells i 3) ++ lineEnd
+    numberText (cellAt cells i 0)
+    ++ numberText (cellAt cells i 1)
+    ++ numberText (cellAt cells i 2)
+    ++ numberText (cellAt cells i 3)
+    ++ lineEnd
 
 -- row i of a table with that name
 unfoldable pub rowText : (name label cells : List ℕ) (i : ℕ) → List ℕ
@@ -108,9 +112,25 @@ reportOf f = reportFor (answerOf f mostCells) f
 
 -- ---- the promise
 
--- bytes of a report, at most: two tables of all rows, and the unit's line
+-- bytes of a number and the space before it, at most
+abbrev pub mostNumber : ℕ
+mostNumber = length space + mostDigits
+
+-- of G, R, U, D and the line end
+abbrev pub mostAmounts : ℕ
+mostAmounts = width * mostNumber + length lineEnd
+
+-- of a row: both tables' names are as long, and `total` is shorter than a number may be
+abbrev pub mostRow : ℕ
+mostRow = length exactWord + mostNumber + mostAmounts
+
+-- of the unit's line
+abbrev pub mostUnit : ℕ
+mostUnit = length unitWord + mostNumber + length lineEnd
+
+-- of a report: two tables of all rows, and the unit's line
 abbrev pub mostText : ℕ
-mostText = 2 * 111 * (mostLines + 1) + 26
+mostText = 2 * (mostRow * (mostLines + 1)) + mostUnit
 
 -- all bytes of the report, or none
 unfoldable pub writtenOf : (size room : ℕ) → Written
@@ -121,6 +141,7 @@ unfoldable pub textAfter : (r : Written) (report text : List ℕ) → List ℕ
 textAfter (Bytes n) report text = report ++ drop n text
 textAfter Short report text = replicate (length text) 0
 
+-- the whole promise for a book, a sheet and a lent text: the report fits the bound, r says whether it has room, and what the text holds
 pub record Reported (f : Lent) (text : List ℕ) (r : Written) (text' : List ℕ) : Type 0 where
   pub fits : length (reportOf f) ≤ mostText
   pub answer : r ≡ writtenOf (length (reportOf f)) (length text)

@@ -11,8 +11,11 @@ use put::MOST_NUMBER;
 use rows::MOST_ROW;
 use told::told;
 
+// The bytes of the unit's line, at most: the word, the number and the line end.
+const MOST_UNIT: usize = 4 + MOST_NUMBER + 1;
+
 // The bytes of a report, at most: two tables of all rows, and the unit's line.
-pub const MOST_TEXT: usize = 2 * MOST_ROW * (MOST_LINES + 1) + (MOST_NUMBER + 5);
+pub const MOST_TEXT: usize = 2 * (MOST_ROW * (MOST_LINES + 1)) + MOST_UNIT;
 
 // The bytes that are written; or no room for them.
 pub enum Written {

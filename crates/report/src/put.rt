@@ -3,8 +3,8 @@
 ghost use mathlib.Core.Path.{_≡_};
 ghost use Prim.Native.Nat.{_+_, _≤_};
 ghost use lib.ListN.{length};
-ghost use Rattle.report.specs.Report.{numberText};
-ghost use Rattle.report.specs.Inner.{reach, mostNumber, Puts};
+ghost use Rattle.report.specs.Report.{mostNumber, numberText};
+ghost use Rattle.report.specs.Inner.{reach, Puts};
 use numerals::bytes::lay;
 use numerals::number::MOST_DIGITS;
 use numerals::number::decimal;

@@ -3,15 +3,18 @@ ghost use mathlib.Core.Path.{_≡_};
 ghost use Prim.Native.Nat.{_+_, _*_, _≤_, _<_};
 ghost use Rattle.desk.specs.Cells.{width};
 ghost use Rattle.desk.specs.Demands.{cellAt};
-ghost use Rattle.report.specs.Report.{numberText, amountsText, rowText, linesText, tableText, totalWord};
-ghost use Rattle.report.specs.Inner.{reach, counted, mostAmounts, mostRow, Rowable, Puts};
+ghost use Rattle.report.specs.Report.{mostAmounts, mostRow, numberText, amountsText, rowText, linesText, tableText};
+ghost use Rattle.report.specs.Inner.{reach, counted, Rowable, Puts};
 use super::put::MOST_NUMBER;
 use super::put::number;
 use super::put::put;
 use desk::cells::COLUMNS;
 
+// The letters of a table's name.
+const NAME_SIZE: usize = 5;
+
 // The bytes of a row, at most: the table's name, the line's number, the cells and the line end.
-pub(crate) const MOST_ROW: usize = 5 + MOST_NUMBER + (COLUMNS * MOST_NUMBER + 1);
+pub(crate) const MOST_ROW: usize = NAME_SIZE + MOST_NUMBER + (COLUMNS * MOST_NUMBER + 1);
 
 // Cell j of row i, both counted from 0; 0 where the table has no such cell.
 fn cell(cells: &[u64], i: usize, j: usize) -> u64

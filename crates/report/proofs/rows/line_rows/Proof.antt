@@ -4,8 +4,8 @@ use mathlib.Core.Path.{_≡_, ap, _∙_}
 use native.Mathlib.Omega.{arith}
 use lib.ListN.{length}
 use Rattle.numerals.proofs.LawLaid.{length-laid}
-use Rattle.report.specs.Report.{linesText}
-use Rattle.report.specs.Inner.{mostRow, Puts}
+use Rattle.report.specs.Report.{mostRow, linesText}
+use Rattle.report.specs.Inner.{Puts}
 use Rattle.report.proofs.LawPut.{lines-start, lines-step, lines-done}
 use borrow.Author.Needs.{needs}
 use Rattle.report.proofs.rows.line_rows.Statement.{statement}

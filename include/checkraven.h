@@ -40,6 +40,9 @@ extern "C" {
 /* Cells that are enough for every sheet: 128 lines and the row of sums. */
 #define CHECKRAVEN_MOST_CELLS CHECKRAVEN_CELLS(128)
 
+/* Bytes that are enough for the report of every sheet. */
+#define CHECKRAVEN_MOST_TEXT 28664
+
 /*
  * Accounts for one sheet with one book.
  *
@@ -68,6 +71,31 @@ uint64_t checkraven_account(const uint8_t *book, size_t book_len,
                             const uint8_t *sheet, size_t sheet_len,
                             uint64_t *exact, size_t exact_len,
                             uint64_t *shown, size_t shown_len);
+
+/*
+ * Writes the report of one sheet with one book: the text that the program
+ * prints.
+ *
+ * Lent for reading: the book (book_len bytes) and the sheet (sheet_len bytes).
+ * They never change.
+ * Lent for writing: the text (text_len bytes). It overlaps neither file.
+ * No pointer is null, also where its length is 0. The files and the text may
+ * stand at any address.
+ *
+ * The answer is the number of bytes written, below 65536, for figures and for
+ * a refusal alike. The text then begins with them, further bytes keep their
+ * values, and no zero byte ends them. They are ASCII, each line ends in '\n':
+ *   figures: the exact rows, 'unit' with W, the shown rows. A row is 'exact' or
+ *            'shown', the line's number or 'total', then G, R, U, D.
+ *   refusal: 'refused N line L', with the number and the line that
+ *            checkraven_account answers where both results have room.
+ *
+ * Where the text has no room for all of them the answer is
+ * CHECKRAVEN_RESULT_TOO_SHORT * 65536, and all bytes of the text are zero.
+ */
+uint64_t checkraven_report(const uint8_t *book, size_t book_len,
+                           const uint8_t *sheet, size_t sheet_len,
+                           uint8_t *text, size_t text_len);
 
 #ifdef __cplusplus
 }

@@ -11,6 +11,15 @@ extern "C" {
         shown: *mut u64,
         shown_len: usize,
     ) -> u64;
+
+    fn checkraven_report(
+        book: *const u8,
+        book_len: usize,
+        sheet: *const u8,
+        sheet_len: usize,
+        text: *mut u8,
+        text_len: usize,
+    ) -> u64;
 }
 
 pub(crate) fn account(book: &[u8], sheet: &[u8], exact: &mut [u64], shown: &mut [u64]) -> u64 {
@@ -29,6 +38,21 @@ pub(crate) fn account(book: &[u8], sheet: &[u8], exact: &mut [u64], shown: &mut 
             exact.len(),
             shown.as_mut_ptr(),
             shown.len(),
+        )
+    }
+}
+
+pub(crate) fn report(book: &[u8], sheet: &[u8], text: &mut [u8]) -> u64 {
+    // SAFETY: as above. The text is a `&mut` slice of bytes, which need not be
+    // aligned, and overlaps neither file.
+    unsafe {
+        checkraven_report(
+            book.as_ptr(),
+            book.len(),
+            sheet.as_ptr(),
+            sheet.len(),
+            text.as_mut_ptr(),
+            text.len(),
         )
     }
 }

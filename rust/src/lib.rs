@@ -4,14 +4,17 @@
 //! A sheet is one works' year for one pollutant in one medium. The desk itself
 //! is proved; this crate lends it memory and names its answer. [`declare`]
 //! lends memory of its own and gives rows; [`account`] takes the caller's.
+//! [`report`] gives the text that the program prints.
 
 use std::fmt;
 
 mod desk;
 mod refusal;
+mod report;
 mod tables;
 
 pub use refusal::{Refusal, Refused};
+pub use report::{report, report_into, MOST_TEXT};
 pub use tables::{Line, Row, Tables, Total, Unit};
 
 /// The most lines in a sheet.

@@ -1,24 +1,16 @@
-// The desk as a program: it reads `book.bin` and `sheet.bin` in the folder it is started in, and prints the exact table, the shown unit
-// and the shown table, or the refusal.
-ghost use Prim.Native.Nat.{_<_};
-use desk::answer::Outcome;
-use desk::cells::COLUMNS;
-use desk::declare::declare;
+// The desk as a program: it reads `book.bin` and `sheet.bin` in the folder it is started in, and prints the report of the sheet.
+ghost use mathlib.Core.Path.{_≡_};
+ghost use Prim.Native.Nat.{_≤_};
+ghost use lib.ListN.{length, take};
+ghost use Rattle.desk.specs.Lent.{lent};
+ghost use Rattle.report.specs.Report.{mostText, reportOf};
 use desk::house::MOST_BYTES;
-use desk::sheet::line_count;
-use desk::table::MOST_CELLS;
-use desk::unit::unit_of;
+use libc::STDERR_FILENO;
 use libc::STDOUT_FILENO;
 use little::part::part;
-
-fn say(words: &[u8]) {
-    io::write_all(STDOUT_FILENO, words);
-}
-
-fn number(n: u64) {
-    say(b" ");
-    io::print_decimal(STDOUT_FILENO, n);
-}
+use report::MOST_TEXT;
+use report::Written;
+use report::report;
 
 // A file that is not there counts as empty.
 fn load(name: &[u8], room: &mut [u8]) -> usize {
@@ -31,58 +23,26 @@ fn load(name: &[u8], room: &mut [u8]) -> usize {
     bytes
 }
 
-fn cell(cells: &[u64], at: usize) -> u64 {
-    if at < cells.len() { cells[at] } else { 0 }
-}
-
-fn amounts(cells: &[u64], from: usize)
-    requires { ⌜ from < 1000000 ⌝ }
+// The bytes of the report, which a text of that size always has room for.
+fn whole_report(book: &[u8], sheet: &[u8], text: &mut [u8]) -> usize
+    requires { ⌜ mostText ≤ length (now text) ⌝ }
+    ensures { λ r. ⌜ take r (now (text .exit)) ≡ reportOf (lent (now (book .entry)) (now (sheet .entry))) ⌝ }
 {
-    let mut i = 0;
-    while i < COLUMNS {
-        number(cell(cells, from + i));
-        i += 1;
+    match report(book, sheet, text) {
+        Written::Bytes(bytes) => bytes,
+        Written::Short => 0,
     }
-    say(b"\n");
 }
 
-fn table(name: &[u8], cells: &[u64], lines: usize)
-    requires { ⌜ lines < 65536 ⌝ }
-{
-    let mut i = 0;
-    while i < lines {
-        say(name);
-        number((i + 1) as u64);
-        amounts(cells, COLUMNS * i);
-        i += 1;
-    }
-    say(name);
-    say(b" total");
-    amounts(cells, COLUMNS * lines);
-}
-
-fn refused(rule: u16, line: u16) {
-    say(b"refused");
-    number(rule as u64);
-    say(b" line");
-    number(line as u64);
-    say(b"\n");
-}
-
-fn report(book: &[u8], sheet: &[u8]) {
-    let mut exact = [0u64; MOST_CELLS];
-    let mut shown = [0u64; MOST_CELLS];
-    let outcome = declare(book, sheet, &mut exact, &mut shown);
-    if let Outcome::Accepted = outcome {
-        let lines = line_count(sheet);
-        table(b"exact", &exact, lines);
-        say(b"unit");
-        number(unit_of(sheet));
-        say(b"\n");
-        table(b"shown", &shown, lines);
+// One write, and a word on standard error where it fails.
+fn print(text: &[u8]) {
+    if io::write_all(STDOUT_FILENO, text) {
         return;
     }
-    refused(outcome.number(), outcome.line());
+    io::write_all(
+        STDERR_FILENO,
+        b"checkraven: the report could not be written\n",
+    );
 }
 
 // One byte more than the limit is read, so that a longer file is refused and not cut.
@@ -91,5 +51,11 @@ fn main() {
     let mut sheet = [0u8; MOST_BYTES + 1];
     let book_bytes = load(b"book.bin", &mut book);
     let sheet_bytes = load(b"sheet.bin", &mut sheet);
-    report(part(&book, 0, book_bytes), part(&sheet, 0, sheet_bytes));
+    let mut text = [0u8; MOST_TEXT];
+    let bytes = whole_report(
+        part(&book, 0, book_bytes),
+        part(&sheet, 0, sheet_bytes),
+        &mut text,
+    );
+    print(part(&text, 0, bytes));
 }

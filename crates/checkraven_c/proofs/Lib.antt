@@ -1,1 +1,2 @@
 pub mod LawCode
+pub mod LawTextCode

@@ -1,0 +1,3 @@
+pub mod LawLaid
+pub mod LawNumeral
+pub mod LawValue

@@ -1,0 +1,39 @@
+-- A number's decimal numeral, in ASCII. Assumes nothing.
+use Prim.Native.Nat.{ℕ, zero, suc, _+_, _-_, _*_, _/_, _%_, _≤_}
+use mathlib.Core.Path.{_≡_}
+use mathlib.Core.Bool.{cond}
+use mathlib.Core.List.{List, [], _∷_, _++_}
+use lib.Dec.{eqb}
+use lib.ListN.{length, drop}
+
+-- a u64 has at most these digits
+abbrev pub mostDigits : ℕ
+mostDigits = 20
+
+-- the digit 0; the others follow it in order
+abbrev pub zeroDigit : ℕ
+zeroDigit = 48
+
+-- the last digit of n
+abbrev pub digit : (n : ℕ) → ℕ
+digit n = zeroDigit + n % 10
+
+-- the digits of n, the most significant first and no leading zeros: none for 0; at most so many of the last
+unfoldable pub significant : (most n : ℕ) → List ℕ
+significant zero n = []
+significant (suc most) n = cond (eqb n 0) [] (significant most (n / 10) ++ (digit n ∷ []))
+
+-- 0 is written `0`, and any other number by its digits
+unfoldable pub numeral : (n : ℕ) → List ℕ
+numeral n = cond (eqb n 0) (zeroDigit ∷ []) (significant mostDigits n)
+
+-- the number that digits are read as, behind what was read so far
+unfoldable pub valueOf : (so-far : ℕ) (digits : List ℕ) → ℕ
+valueOf so-far [] = so-far
+valueOf so-far (d ∷ digits) = valueOf (10 * so-far + (d - zeroDigit)) digits
+
+-- the list is these digits from r on
+pub record Ends (digits : List ℕ) (r : ℕ) (list : List ℕ) : Type 0 where
+  pub within : r ≤ mostDigits
+  pub size : length list ≡ mostDigits
+  pub ends : drop r list ≡ digits

@@ -1,0 +1,41 @@
+// Lent bytes: others laid into them at a place, and all of them made zero.
+ghost use mathlib.Core.Path.{_≡_};
+ghost use Prim.Native.Nat.{_+_};
+ghost use mathlib.Core.List.{[], _∷_};
+ghost use lib.ListN.{length, replicate};
+ghost use Rattle.numerals.specs.Laid.{laid, Lays};
+
+// No sum is made that could wrap, wherever the place is.
+fn lay_one(text: &mut [u8], at: usize, i: usize, byte: u8)
+    ensures { λ _. ⌜ now (text .exit) ≡ laid (at + i) (byte ∷ []) (now (text .entry)) ⌝ }
+{
+    if at < text.len() {
+        if i < text.len() - at {
+            text[at + i] = byte;
+        }
+    }
+}
+
+// The bytes, one after the other from the place `at` on, as far as the text goes; further bytes are dropped, all of them where the text
+// ends at or before the place. Answers how many bytes there are, dropped ones among them.
+pub fn lay(text: &mut [u8], at: usize, bytes: &[u8]) -> usize
+    ensures { λ r. ⌜ Lays (now (bytes .entry)) (length (now (bytes .entry))) at (now (text .entry)) r (now (text .exit)) ⌝ }
+{
+    let mut i = 0;
+    while i < bytes.len() {
+        lay_one(text, at, i, bytes[i]);
+        i += 1;
+    }
+    i
+}
+
+// Every byte becomes 0; of no bytes, none.
+pub fn clear(text: &mut [u8])
+    ensures { λ _. ⌜ now (text .exit) ≡ replicate (length (now (text .entry))) 0 ⌝ }
+{
+    let mut i = 0;
+    while i < text.len() {
+        lay_one(text, 0, i, 0);
+        i += 1;
+    }
+}

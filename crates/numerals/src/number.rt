@@ -1,0 +1,44 @@
+// A number as its decimal numeral.
+ghost use mathlib.Core.Path.{_≡_};
+ghost use lib.ListN.{length};
+ghost use Rattle.numerals.specs.Laid.{Lays};
+ghost use Rattle.numerals.specs.Numeral.{mostDigits, digit, numeral, Ends, significant};
+use super::bytes::lay;
+
+// The digits of a number, at most.
+pub const MOST_DIGITS: usize = 20;
+
+// The last digit of a number, in ASCII.
+fn last_digit(n: u64) -> u8
+    ensures { λ r. ⌜ r ≡ digit n ⌝ }
+{
+    48 + (n % 10) as u8
+}
+
+// The digits of a number, with no leading zeros, at the end of as many bytes as any number has; answers where they begin.
+fn digits(n: u64, tail: &mut [u8]) -> usize
+    requires { ⌜ length (now tail) ≡ mostDigits ⌝ }
+    ensures { λ r. ⌜ Ends (significant mostDigits n) r (now (tail .exit)) ⌝ }
+{
+    let mut i = MOST_DIGITS;
+    let mut rest = n;
+    while (0 < i) & (0 < rest) {
+        i -= 1;
+        tail[i] = last_digit(rest);
+        rest /= 10;
+    }
+    i
+}
+
+// The numeral of a number, 0 as `0`, from the place `at` on, as far as the text goes; further digits are dropped, all of them where the
+// text ends at or before the place. Answers how many digits there are, dropped ones among them.
+pub fn decimal(text: &mut [u8], at: usize, n: u64) -> usize
+    ensures { λ r. ⌜ Lays (numeral n) mostDigits at (now (text .entry)) r (now (text .exit)) ⌝ }
+{
+    if n == 0 {
+        return lay(text, at, b"0");
+    }
+    let mut tail = [0u8; MOST_DIGITS];
+    let from = digits(n, &mut tail);
+    lay(text, at, &tail[from..])
+}

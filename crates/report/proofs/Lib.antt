@@ -1,0 +1,3 @@
+pub mod LawPut
+pub mod LawTold
+pub mod LawReported

@@ -1,0 +1,38 @@
+// The report of a sheet as a text: the figures, or the refusal, byte for byte. It relies on the desk only through its promises.
+mod put;
+mod rows;
+mod told;
+
+ghost use Rattle.desk.specs.Lent.{lent};
+ghost use Rattle.report.specs.Report.{Reported};
+use desk::sheet::MOST_LINES;
+use numerals::bytes::clear;
+use put::MOST_NUMBER;
+use rows::MOST_ROW;
+use told::told;
+
+// The bytes of the unit's line, at most: the word, the number and the line end.
+const MOST_UNIT: usize = 4 + MOST_NUMBER + 1;
+
+// The bytes of a report, at most: two tables of all rows, and the unit's line.
+pub const MOST_TEXT: usize = 2 * (MOST_ROW * (MOST_LINES + 1)) + MOST_UNIT;
+
+// The bytes that are written; or no room for them.
+pub enum Written {
+    Bytes(usize),
+    Short,
+}
+
+// The report for a book and a sheet of any content, at the start of a text of any size. The bytes past the report keep their values.
+// Where the text has no room for all of the report every byte of it is zero; one of `MOST_TEXT` bytes always has room.
+pub fn report(book: &[u8], sheet: &[u8], text: &mut [u8]) -> Written
+    ensures { λ r. ⌜ Reported (lent (now (book .entry)) (now (sheet .entry))) (now (text .entry)) r (now (text .exit)) ⌝ }
+{
+    let end = told(book, sheet, text);
+    if end <= text.len() {
+        Written::Bytes(end)
+    } else {
+        clear(text);
+        Written::Short
+    }
+}

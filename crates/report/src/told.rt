@@ -1,0 +1,60 @@
+// What the desk answers, told: the figures, or the refusal.
+ghost use mathlib.Core.Path.{_≡_};
+ghost use Prim.Native.Nat.{_≤_};
+ghost use Rattle.desk.specs.Lent.{lent};
+ghost use Rattle.desk.specs.Sheet.{mostLines};
+ghost use Rattle.report.specs.Report.{figuresText, refusalText, reportOf, mostText};
+ghost use Rattle.report.specs.Inner.{mostRefusal, Puts};
+use super::put::number;
+use super::put::put;
+use super::rows::table;
+use desk::answer::Outcome;
+use desk::cells::COLUMNS;
+use desk::declare::declare;
+use desk::sheet::line_count;
+use desk::table::MOST_CELLS;
+use desk::unit::unit_of;
+
+fn refusal(text: &mut [u8], rule: u16, line: u16) -> usize
+    ensures { λ r. ⌜ Puts (refusalText rule line) mostRefusal 0 (now (text .entry)) r (now (text .exit)) ⌝ }
+{
+    let word = put(text, 0, b"refused");
+    let numbered = number(text, word, rule as u64);
+    let at = put(text, numbered, b" line");
+    let lined = number(text, at, line as u64);
+    put(text, lined, b"\n")
+}
+
+fn figures(text: &mut [u8], lines: usize, unit: u64, exact: &[u64], shown: &[u64]) -> usize
+    requires { ⌜ lines ≤ mostLines ⌝ }
+    ensures { λ r. ⌜ Puts (figuresText lines unit (now (exact .entry)) (now (shown .entry))) mostText
+        0 (now (text .entry)) r (now (text .exit)) ⌝ }
+{
+    let told = table(text, 0, b"exact", exact, lines);
+    let word = put(text, told, b"unit");
+    let unit_told = number(text, word, unit);
+    let at = put(text, unit_told, b"\n");
+    table(text, at, b"shown", shown, lines)
+}
+
+// The desk is lent results with room for every sheet.
+pub(crate) fn told(book: &[u8], sheet: &[u8], text: &mut [u8]) -> usize
+    ensures { λ r. ⌜ Puts (reportOf (lent (now (book .entry)) (now (sheet .entry)))) mostText
+        0 (now (text .entry)) r (now (text .exit)) ⌝ }
+{
+    let mut exact = [0u64; MOST_CELLS];
+    let mut shown = [0u64; MOST_CELLS];
+    let outcome = declare(book, sheet, &mut exact, &mut shown);
+    if let Outcome::Accepted = outcome {
+        let lines = line_count(sheet);
+        let cells = COLUMNS * (lines + 1);
+        return figures(
+            text,
+            lines,
+            unit_of(sheet),
+            &exact[..cells],
+            &shown[..cells],
+        );
+    }
+    refusal(text, outcome.number(), outcome.line())
+}

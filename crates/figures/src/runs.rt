@@ -1,60 +1,16 @@
 // The desk over the folders of data/: each has a book and a sheet, and the listing that `make-files` made both from, or what was changed.
-use super::print::number;
 use super::print::say;
-use desk::answer::Outcome;
-use desk::cells::COLUMNS;
-use desk::declare::declare;
 use desk::house::MOST_BYTES;
-use desk::sheet::line_count;
-use desk::table::MOST_CELLS;
-use desk::unit::unit_of;
-
-// One cell. Before the first of a row stands its line, counted from 1, or `total`.
-fn cell(name: &[u8], cells: &[u64], at: usize, lines: usize) {
-    if at % COLUMNS == 0 {
-        say(name);
-        if at / COLUMNS < lines {
-            number((at / COLUMNS + 1) as u64);
-        } else {
-            say(b" total");
-        }
-    }
-    if at < cells.len() {
-        number(cells[at]);
-    }
-    if at % COLUMNS == COLUMNS - 1 {
-        say(b"\n");
-    }
-}
-
-// A row for each of the sheet's lines, and one for the sums.
-fn table(name: &[u8], cells: &[u64], sheet: &[u8]) {
-    let lines = line_count(sheet);
-    let count = COLUMNS * (lines + 1);
-    let mut at = 0;
-    while at < count {
-        cell(name, cells, at, lines);
-        at += 1;
-    }
-}
+use little::part::part;
+use report::MOST_TEXT;
+use report::Written;
+use report::report;
 
 fn answer(book: &[u8], sheet: &[u8]) {
-    let mut exact = [0u64; MOST_CELLS];
-    let mut shown = [0u64; MOST_CELLS];
-    let outcome = declare(book, sheet, &mut exact, &mut shown);
-    if let Outcome::Accepted = outcome {
-        table(b"exact", &exact, sheet);
-        say(b"unit");
-        number(unit_of(sheet));
-        say(b"\n");
-        table(b"shown", &shown, sheet);
-        return;
+    let mut text = [0u8; MOST_TEXT];
+    if let Written::Bytes(bytes) = report(book, sheet, &mut text) {
+        say(part(&text, 0, bytes));
     }
-    say(b"refused");
-    number(outcome.number() as u64);
-    say(b" line");
-    number(outcome.line() as u64);
-    say(b"\n");
 }
 
 // Prints the folder's sheet by its path, and what the desk answers. A file that is not there is read as no bytes.

@@ -1,16 +1,19 @@
 -- What private functions ask and answer, beside what a promise says. Nothing here is needed to read a promise.
-use Prim.Native.Nat.{ℕ, _+_, _≤_, _<_}
+use Prim.Native.Nat.{ℕ, _+_, _*_, _≤_, _<_}
 use mathlib.Core.Path.{_≡_}
-use mathlib.Core.Bool.{Bool, true, false}
-use mathlib.Core.List.{List, _++_}
+use mathlib.Core.Bool.{Bool, true, false, _&&_, _||_}
+use mathlib.Core.List.{List, [], _∷_, _++_}
+use lib.Dec.{leb, ltb, eqb}
 use lib.ListN.{length, take, drop}
 use Rattle.amounts.specs.Line.{wholeShare}
 use Rattle.little.specs.Read.{u16Range}
+use Rattle.search.specs.Test.{every}
 use Rattle.settle.specs.Shown.{at}
 use Rattle.settle.specs.Table.{Good}
 use Rattle.settle.specs.Step.{shownTable}
 use Rattle.desk.specs.Key.{keyLess}
-use Rattle.desk.specs.Book.{rowCount, rowStart, keyAt, techniqueEfficiency, bookOk, mostCoefficient}
+use Rattle.desk.specs.Book.{rowCount, rowStart, keyAt, fieldsAt, techniqueCount, techniqueEfficiency, techniquesOk}
+use Rattle.desk.specs.Book.{fieldsOk, coefficientAt, mostCoefficient, bookOk}
 use Rattle.desk.specs.Sheet.{lineCount, sheetOk, mostLines}
 use Rattle.desk.specs.Line.{mostKilograms}
 use Rattle.desk.specs.Lent.{Lent}
@@ -20,6 +23,7 @@ use Rattle.desk.specs.Table.{byLines, cellsAfter}
 use Rattle.desk.specs.Demands.{Demand3}
 use Rattle.desk.specs.Declare.{BothAfter}
 use Rattle.desk.specs.declared.key.Key.{Key}
+use Rattle.desk.specs.declared.key.Packed.{Packed}
 use Rattle.desk.specs.declared.line.Line.{Line}
 use Rattle.desk.specs.declared.row.Row.{Row}
 use Rattle.desk.specs.declared.row.RowSearch.{RowSearch}
@@ -39,6 +43,36 @@ counted = u16Range
 -- rows and lines start below this: an offset u32, and at most as many of them as a u16 counts
 abbrev pub farthest : ℕ
 farthest = 8_589_934_592
+
+-- the bytes of a row that starts at `at` are there
+abbrev pub RowIn : (b : List ℕ) (at : ℕ) → Type 0
+RowIn b at = at + 24 ≤ length b
+
+-- ---- a key in two numbers
+
+-- the first four fields in one number and the last three in another, the first on top
+pub record Packs (k : Key) (p : Packed) : Type 0 where
+  pub place : p .place ≡ ((k .industry * u16Range + k .product) * u16Range + k .material) * u16Range + k .process
+  pub rest : p .rest ≡ (k .scale * u16Range + k .medium) * u16Range + k .pollutant
+  pub product : k .product < u16Range
+  pub material : k .material < u16Range
+  pub process : k .process < u16Range
+  pub medium : k .medium < u16Range
+  pub pollutant : k .pollutant < u16Range
+
+abbrev pub packedLess : Packed → Packed → Bool
+packedLess a b = ltb (a .place) (b .place) || eqb (a .place) (b .place) && ltb (a .rest) (b .rest)
+
+-- ---- a row by itself
+
+-- the row that starts at `at` of a book whose technique block is t: all that `rowOk` asks but that it stands after the row before it
+unfoldable pub rowFits : (b t : List ℕ) (at : ℕ) → Bool
+rowFits b t at =
+    every
+    (fieldsOk b at
+    ∷ leb (coefficientAt b at) mostCoefficient
+    ∷ techniquesOk t (techniqueCount b) (fieldsAt b at .first) (fieldsAt b at .techniques)
+    ∷ [])
 
 -- ---- the row search
 

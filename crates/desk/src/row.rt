@@ -4,7 +4,7 @@ ghost use mathlib.Core.Bool.{true};
 ghost use Prim.Native.Nat.{_<_};
 ghost use Rattle.search.specs.First.{Finds, first};
 ghost use Rattle.desk.specs.Book.{rowCount, rowStart, fieldsOk, bookOk};
-ghost use Rattle.desk.specs.Inner.{counted, rowBefore, Cut, ReadsRow, FindsRow};
+ghost use Rattle.desk.specs.Inner.{counted, RowIn, rowBefore, Cut, ReadsRow, FindsRow};
 ghost use Rattle.desk.specs.Row.{rowHas, rowIndex, rowAt, rowOf};
 use super::book::coefficient_at;
 use super::book::key_at;
@@ -14,8 +14,8 @@ use super::key::Key;
 use super::key::all_scales;
 use super::key::key_less;
 use super::key::key_same;
-use little::read::byte_at;
-use little::read::u16_at;
+use little::read::byte_in;
+use little::read::u16_in;
 use search::found::Found;
 
 // What a line is accounted for by: units per kilogram, and the list of techniques in the block.
@@ -33,14 +33,14 @@ pub enum RowSearch {
 }
 
 fn row_has(b: &[u8], k: Key, i: usize) -> bool
-    requires { ⌜ i < counted ⌝ }
+    requires { ⌜ (i < counted) × RowIn (now b) (rowStart (now b) i) ⌝ }
     ensures { λ r. ⌜ r ≡ rowHas (now (b .entry)) k i ⌝ }
 {
     key_same(key_at(b, row_start(b, i)), k)
 }
 
 fn row_before(b: &[u8], k: Key, i: usize) -> bool
-    requires { ⌜ i < counted ⌝ }
+    requires { ⌜ (i < counted) × RowIn (now b) (rowStart (now b) i) ⌝ }
     ensures { λ r. ⌜ r ≡ rowBefore (now (b .entry)) k i ⌝ }
 {
     key_less(key_at(b, row_start(b, i)), k)
@@ -89,16 +89,16 @@ pub(crate) fn row_index(b: &[u8], k: Key) -> Found
 }
 
 fn row_at(b: &[u8], i: usize) -> Row
-    requires { ⌜ (i < counted) × (fieldsOk (now b) (rowStart (now b) i) ≡ true) ⌝ }
+    requires { ⌜ (i < counted) × RowIn (now b) (rowStart (now b) i) × (fieldsOk (now b) (rowStart (now b) i) ≡ true) ⌝ }
     ensures { λ r. ⌜ ReadsRow r (rowAt (now (b .entry)) i) ⌝ }
 {
     let at = row_start(b, i);
     Row {
         coefficient: coefficient_at(b, at) as u64,
-        basis: byte_at(b, at + 12),
-        rule: byte_at(b, at + 15),
-        first: u16_at(b, at + 20),
-        techniques: u16_at(b, at + 22),
+        basis: byte_in(b, at + 12),
+        rule: byte_in(b, at + 15),
+        first: u16_in(b, at + 20),
+        techniques: u16_in(b, at + 22),
     }
 }
 

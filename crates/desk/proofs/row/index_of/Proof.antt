@@ -2,9 +2,15 @@
 use mathlib.Core.Path.{sym, _∙_}
 use native.Mathlib.Omega.{arith}
 use borrow.Author.Needs.{needs}
+use Rattle.desk.proofs.LawBook.{good-row-in}
 use Rattle.desk.proofs.LawOrder.{cut-here, cut-other, cut-none}
 use Rattle.desk.proofs.row.index_of.Statement.{statement}
 use Rattle.desk.proofs.row.index_of.Tie as tie
+
+row-has-requires : tie.Need-row-has-requires
+row-has-requires c κs =
+    let below = rw (c .before .row-count .ensures .eq) at (c .if1 .taken) in
+    (search needs, good-row-in _ (c .before .before .before .before .pre) _ below)
 
 returns : tie.Need-returns
 returns c =
@@ -29,4 +35,4 @@ returns-3 c =
     record { eq = cut-none _ (c .before .before .before .before .pre) _ _ (c .before .before .rows-before .ensures) past; below = tt }
 
 pub index-of-spec : {M : Type 1} → statement M
-index-of-spec = tie.close (tie.spec (λ c κs. search needs) (λ c κs. search needs) (λ c κs. search needs) returns returns-2 returns-3)
+index-of-spec = tie.close (tie.spec (λ c κs. search needs) (λ c κs. search needs) row-has-requires returns returns-2 returns-3)

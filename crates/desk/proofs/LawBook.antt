@@ -1,33 +1,25 @@
 -- What a good book says of its rows.
-use Prim.Native.Nat.{ℕ, zero, suc, _+_, _*_, _^_, _≤_, _<_}
-use mathlib.Core.Bool.{true, _||_, not}
-use mathlib.Core.Path.{_≡_, refl}
-use mathlib.Core.List.{List, [], _∷_}
+use Prim.Native.Nat.{ℕ, zero, suc, _+_, _*_, _≤_, _<_}
+use mathlib.Core.Bool.{Bool, true, false, _||_, not}
+use mathlib.Core.Path.{_≡_, sym, _∙_}
+use mathlib.Core.List.{List}
 use native.Mathlib.Omega.{arith}
 use lib.Dec.{leb, eqb}
-use lib.ListN.{length, getD, length-take, length-drop}
+use lib.ListN.{length, length-take, length-drop}
 use borrow.Author.Tests.{leb-true, eqb-true}
 use Rattle.amounts.specs.Line.{wholeShare}
 use Rattle.little.specs.Read.{u32At}
 use Rattle.search.specs.Test.{all}
-use Rattle.search.proofs.LawTest.{and-left, and-right, all-at, every-at}
+use Rattle.search.proofs.LawTest.{either-way, and-left, and-right, all-at, every-at}
 use Rattle.desk.specs.House.{fileOk}
 use Rattle.desk.specs.Book.{bookHeader, bookFits, rowCount, techniqueCount, mostTechniques, techniqueSize, bookHeaderOk, techniqueBlock}
 use Rattle.desk.specs.Book.{techniqueEfficiency, techniqueOk, techniquesOk, rowStart, fieldsAt, fieldsOk, mostCoefficient, coefficientAt}
 use Rattle.desk.specs.Book.{rowOk, rowsOk, bookOk}
 use Rattle.desk.specs.Inner.{RowIn}
 
--- the powers of ten that a coefficient is made with
-abbrev pub tens : List ℕ
-tens = 1 ∷ 10 ∷ 100 ∷ 1000 ∷ 10000 ∷ 100_000 ∷ 1_000_000 ∷ 10_000_000 ∷ 100_000_000 ∷ []
-
-pub ten-is : (e : ℕ) → e < 9 → getD tens e 0 ≡ 10 ^ e
-unfolding all
-ten-is e l = eqb-true (getD tens e 0) (10 ^ e) (all-at (λ k. eqb (getD tens k 0) (10 ^ k)) 9 e refl l)
-
-pub ten-most : (e : ℕ) → e < 9 → getD tens e 0 ≤ 100_000_000
-unfolding all
-ten-most e l = leb-true (getD tens e 0) 100_000_000 (all-at (λ k. leb (getD tens k 0) 100_000_000) 9 e refl l)
+-- a loop over n that stops at a number where the test fails
+pub all-stopped : (p : ℕ → Bool) (n i : ℕ) → i < n → p i ≡ false → all n p ≡ false
+all-stopped p n i l h = either-way (all n p) (λ a. let z : true ≡ false = sym (all-at p n i a l) ∙ h in cc) (λ a. a)
 
 -- the power of ten is one of these
 pub record Power (unit places : ℕ) : Type 0 where

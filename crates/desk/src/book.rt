@@ -139,23 +139,22 @@ fn fields_ok(b: &[u8], at: usize) -> bool
         & (((rule == 0) & (techniques == 0)) | ((rule != 0) & (techniques != 0)))
 }
 
-const TENS: [usize; 9] = [
-    1,
-    10,
-    100,
-    1000,
-    10000,
-    100_000,
-    1_000_000,
-    10_000_000,
-    100_000_000,
-];
-
+// A match, since a table would be laid out anew at each call.
 fn ten_to(e: usize) -> usize
     requires { ⌜ e < 9 ⌝ }
     ensures { λ r. ⌜ Reads r (10 ^ e) 100_000_001 ⌝ }
 {
-    TENS[e]
+    match e {
+        0 => 1,
+        1 => 10,
+        2 => 100,
+        3 => 1000,
+        4 => 10000,
+        5 => 100_000,
+        6 => 1_000_000,
+        7 => 10_000_000,
+        _ => 100_000_000,
+    }
 }
 
 pub(crate) fn coefficient_at(b: &[u8], at: usize) -> usize
@@ -189,19 +188,21 @@ fn rows_ok(b: &[u8], runs: &[u16]) -> bool
 {
     let rows = row_count(b);
     let size = technique_count(b);
-    let mut ok = true;
     let mut last = Packed { place: 0, rest: 0 };
     let mut at = row_offset(b);
     let mut i = 0;
     while i < rows {
         let key = packed_at(b, at);
         let rises = (i == 0) | packed_less(last, key);
-        ok = ok & (row_fits(b, runs, size, at) & rises);
-        last = key;
-        at += ROW_SIZE;
-        i += 1;
+        if row_fits(b, runs, size, at) & rises {
+            last = key;
+            at += ROW_SIZE;
+            i += 1;
+        } else {
+            return false;
+        }
     }
-    ok
+    true
 }
 
 fn checked(b: &[u8], runs: &mut [u16]) -> bool

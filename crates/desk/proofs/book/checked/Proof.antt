@@ -13,7 +13,10 @@ fill-runs-requires c κs =
     (omega (arith, header-lies _ (pre .0)), rw (size, c .before .before .technique-block .ensures) (block-size _ (pre .0)), omega arith)
 
 rows-ok-requires : tie.Need-rows-ok-requires
-rows-ok-requires c κs = (c .before .before .before .before .before .before .before .before .before .pre .0, rw (← c .before .before .before .before .before .before .technique-block .ensures, ← c .before .before .before .before .before .technique-count .ensures .eq) (c .before .before .before .fill-runs .ensures))
+rows-ok-requires c κs =
+    let block = c .before .before .before .before .before .before .technique-block in
+    let count = c .before .before .before .before .before .technique-count in
+    (c .before .before .before .before .before .before .before .before .before .pre .0, rw (← block .ensures, ← count .ensures .eq) (c .before .before .before .fill-runs .ensures))
 
 pub checked-spec : {M : Type 1} → statement M
 checked-spec =

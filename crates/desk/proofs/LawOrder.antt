@@ -2,22 +2,22 @@
 use Prim.Native.Nat.{ℕ, zero, suc, _+_, _*_, _-_, _≤_, _<_}
 use mathlib.Core.Path.{_≡_, refl, sym, ap, _∙_}
 use mathlib.Core.Bool.{Bool, true, false, _&&_, _||_, and-false, or-false}
-use mathlib.Core.List.{List, [], _∷_}
+use mathlib.Core.List.{List, [], _∷_, map}
 use mathlib.Core.Logic.{_⊎_, inl, inr, ⊎-elim}
 use native.Mathlib.Nat.{le-of-suc-le-suc, eq-or-lt-of-le}
 use native.Mathlib.Omega.{arith}
 use borrow.Author.Tests.{ltb-true, ltb-false, eqb-true, eqb-false, lt-ltb, le-ltb, eq-eqb, ne-eqb}
 use lib.Dec.{ltb, eqb}
-use Rattle.little.specs.Read.{u16Range}
+use Rattle.little.specs.Read.{byteRange, u16Range, byteAt, u16At}
 use Rattle.search.specs.First.{first}
 use Rattle.search.specs.Test.{every}
 use Rattle.search.specs.declared.found.Found.the-variants.{At, Nothing}
 use Rattle.search.proofs.LawTest.{either-way, and-left, and-right, every-at}
 use Rattle.search.proofs.LawFirst.{first-start, first-here, first-rest}
-use Rattle.desk.specs.Key.{keyFields, before, keyLess, keySame}
+use Rattle.desk.specs.Key.{keyFrom, keyFields, before, keyLess, keySame}
 use Rattle.desk.specs.Book.{rowCount, rowStart, keyAt, rises, rowOk, bookOk}
 use Rattle.desk.specs.Row.{rowHas}
-use Rattle.desk.specs.Inner.{rowBefore, Cut, Packs, packedLess, rowFits}
+use Rattle.desk.specs.Inner.{rowBefore, Cut, Packs, SmallKey, keySmall, packedLess, rowFits}
 use Rattle.desk.specs.declared.key.Key.{Key}
 use Rattle.desk.specs.declared.key.Packed.{Packed}
 use Rattle.desk.proofs.LawBook.{row-good}
@@ -147,6 +147,57 @@ unfolding every rowOk rowFits rises
 row-by-kept b t zero last key L K = refl
 row-by-kept b t (suc i) last key L K =
     rw (ne-eqb (suc i) 0 (λ q. omega arith), packed-is (keyAt b (rowStart b (suc i - 1))) (keyAt b (rowStart b (suc i))) last key (L (omega arith)) K)
+
+-- ---- keys that can be packed
+
+pub small-key : (k : Key) → keySmall k ≡ true → SmallKey k
+unfolding keySmall
+small-key k h =
+    record {
+      industry = ltb-true (k .industry) u16Range (every-at _ h 0);
+      product = ltb-true (k .product) u16Range (every-at _ h 1);
+      material = ltb-true (k .material) u16Range (every-at _ h 2);
+      process = ltb-true (k .process) u16Range (every-at _ h 3);
+      scale = ltb-true (k .scale) u16Range (every-at _ h 4);
+      medium = ltb-true (k .medium) u16Range (every-at _ h 5);
+      pollutant = ltb-true (k .pollutant) u16Range (every-at _ h 6);
+    }
+
+small-by : (x y : Key) → keyFields x ≡ keyFields y → keySmall x ≡ keySmall y
+unfolding keySmall
+small-by x y e = ap (λ (l : List ℕ). every (map (λ n. ltb n u16Range) l)) e
+
+module _ (b : List ℕ) (bytes : (i : ℕ) → byteAt b i < byteRange) where
+  code-small : (at : ℕ) → ltb (u16At b at) u16Range ≡ true
+  unfolding u16At
+  code-small at = lt-ltb (byteAt b at + byteRange * byteAt b (at + 1)) u16Range (omega (arith, bytes at, bytes (at + 1)))
+
+  byte-small : (at : ℕ) → ltb (byteAt b at) u16Range ≡ true
+  byte-small at = lt-ltb (byteAt b at) u16Range (omega (arith, bytes at))
+
+  row-small : (at : ℕ) → keySmall (keyAt b at) ≡ true
+  unfolding keySmall every keyFrom
+  row-small at =
+      rw (
+        code-small at,
+        code-small (at + 2),
+        code-small (at + 4),
+        code-small (at + 6),
+        code-small (at + 8),
+        byte-small (at + 10),
+        byte-small (at + 11),
+      )
+
+  large-has : (k : Key) (i : ℕ) → keySmall k ≡ false → rowHas b k i ≡ false
+  unfolding rowHas
+  large-has k i h =
+      let row = keyAt b (rowStart b i) in
+      either-way (keySame row k)
+      (λ s. let z : true ≡ false = sym (row-small (rowStart b i)) ∙ small-by row k (same-fields row k s) ∙ h in cc)
+      (λ s. s)
+
+  pub large-none : (k : Key) (n : ℕ) → keySmall k ≡ false → Nothing ≡ first n (rowHas b k)
+  large-none k n h = sym (first-rest (rowHas b k) 0 n (first-start (rowHas b k)) (omega arith) (λ i l m. large-has k i h))
 
 -- a cut whose ends have met
 pub cut-met : (b : List ℕ) (k : Key) (low high : ℕ) → Cut b k low high → high ≤ low → Cut b k low low

@@ -60,6 +60,28 @@ pub record Packs (k : Key) (p : Packed) : Type 0 where
   pub medium : k .medium < u16Range
   pub pollutant : k .pollutant < u16Range
 
+-- what can be packed: every field is a u16
+pub record SmallKey (k : Key) : Type 0 where
+  pub industry : k .industry < u16Range
+  pub product : k .product < u16Range
+  pub material : k .material < u16Range
+  pub process : k .process < u16Range
+  pub scale : k .scale < u16Range
+  pub medium : k .medium < u16Range
+  pub pollutant : k .pollutant < u16Range
+
+unfoldable pub keySmall : Key → Bool
+keySmall k =
+    every
+    (ltb (k .industry) u16Range
+    ∷ ltb (k .product) u16Range
+    ∷ ltb (k .material) u16Range
+    ∷ ltb (k .process) u16Range
+    ∷ ltb (k .scale) u16Range
+    ∷ ltb (k .medium) u16Range
+    ∷ ltb (k .pollutant) u16Range
+    ∷ [])
+
 abbrev pub packedLess : Packed → Packed → Bool
 packedLess a b = ltb (a .place) (b .place) || eqb (a .place) (b .place) && ltb (a .rest) (b .rest)
 
@@ -86,6 +108,13 @@ pub record Cut (b : List ℕ) (k : Key) (low high : ℕ) : Type 0 where
   pub within : high ≤ rowCount b
   pub below : (i : ℕ) → i < low → rowBefore b k i ≡ true
   pub above : (i : ℕ) → high ≤ i → i < rowCount b → rowBefore b k i ≡ false
+
+-- the same for the key that is packed so
+abbrev pub PackedBefore : (b : List ℕ) (p : Packed) (i : ℕ) (r : Bool) → Type 0
+PackedBefore b p i r = (k : Key) → Packs k p → r ≡ rowBefore b k i
+
+abbrev pub PackedCut : (b : List ℕ) (p : Packed) (low high : ℕ) → Type 0
+PackedCut b p low high = (k : Key) → Packs k p → Cut b k low high
 
 -- a row's list lies below 2 ^ 17
 abbrev pub SmallRow : Row → Type 0

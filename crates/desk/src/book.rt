@@ -9,6 +9,7 @@ ghost use Rattle.desk.specs.Book.{rowStart, keyAt, fieldsOk, coefficient
 ghost use Rattle.desk.specs.Inner.{counted, farthest, RowIn, Packs, rowFits};
 ghost use Rattle.desk.specs.InnerRun.{Runs};
 use super::house::file_ok;
+use super::key::CODE_RANGE;
 use super::key::Key;
 use super::key::Packed;
 use super::key::key_in;
@@ -96,9 +97,7 @@ pub(crate) fn key_at(b: &[u8], at: usize) -> Key
     key_in(b, at, byte_in(b, at + 10), byte_in(b, at + 11))
 }
 
-const CODE_RANGE: usize = 65536;
-
-fn packed_at(b: &[u8], at: usize) -> Packed
+pub(crate) fn packed_at(b: &[u8], at: usize) -> Packed
     requires { ⌜ RowIn (now b) at ⌝ }
     ensures { λ r. ⌜ Packs (keyAt (now (b .entry)) at) r ⌝ }
 {

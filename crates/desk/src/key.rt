@@ -2,8 +2,8 @@
 ghost use mathlib.Core.Path.{_≡_};
 ghost use Prim.Native.Nat.{_<_, _≤_, _+_};
 ghost use lib.ListN.{length};
-ghost use Rattle.desk.specs.Inner.{farthest, packedLess};
-ghost use Rattle.desk.specs.Key.{keyFrom, keyLess, keySame, allScales};
+ghost use Rattle.desk.specs.Inner.{farthest, Packs, SmallKey, keySmall, packedLess};
+ghost use Rattle.desk.specs.Key.{keyFrom, keySame, allScales};
 use little::read::u16_at;
 use little::read::u16_in;
 
@@ -16,6 +16,8 @@ pub struct Key {
     pub medium: usize,
     pub pollutant: usize,
 }
+
+pub(crate) const CODE_RANGE: usize = 65536;
 
 // A key in two numbers, which are compared faster than seven: the four codes of its place, and scale, medium and pollutant.
 pub struct Packed {
@@ -55,22 +57,27 @@ pub(crate) fn key_in(s: &[u8], at: usize, medium: usize, pollutant: usize) -> Ke
     }
 }
 
-pub(crate) fn key_less(a: Key, b: Key) -> bool
-    ensures { λ r. ⌜ r ≡ keyLess a b ⌝ }
+pub(crate) fn key_small(k: Key) -> bool
+    ensures { λ r. ⌜ r ≡ keySmall k ⌝ }
 {
-    (a.industry < b.industry)
-        | ((a.industry == b.industry)
-            & ((a.product < b.product)
-                | ((a.product == b.product)
-                    & ((a.material < b.material)
-                        | ((a.material == b.material)
-                            & ((a.process < b.process)
-                                | ((a.process == b.process)
-                                    & ((a.scale < b.scale)
-                                        | ((a.scale == b.scale)
-                                            & ((a.medium < b.medium)
-                                                | ((a.medium == b.medium)
-                                                    & (a.pollutant < b.pollutant))))))))))))
+    (k.industry < CODE_RANGE)
+        & (k.product < CODE_RANGE)
+        & (k.material < CODE_RANGE)
+        & (k.process < CODE_RANGE)
+        & (k.scale < CODE_RANGE)
+        & (k.medium < CODE_RANGE)
+        & (k.pollutant < CODE_RANGE)
+}
+
+pub(crate) fn pack(k: Key) -> Packed
+    requires { ⌜ SmallKey k ⌝ }
+    ensures { λ r. ⌜ Packs k r ⌝ }
+{
+    Packed {
+        place: ((k.industry * CODE_RANGE + k.product) * CODE_RANGE + k.material) * CODE_RANGE
+            + k.process,
+        rest: (k.scale * CODE_RANGE + k.medium) * CODE_RANGE + k.pollutant,
+    }
 }
 
 pub(crate) fn packed_less(a: Packed, b: Packed) -> bool

@@ -1,4 +1,4 @@
--- What a good book says of its rows.
+-- What a good book says of its rows, and a right header of where rows and lines lie.
 use Prim.Native.Nat.{ℕ, zero, suc, _+_, _*_, _≤_, _<_}
 use mathlib.Core.Bool.{Bool, true, false, _||_, not}
 use mathlib.Core.Path.{_≡_, sym, _∙_}
@@ -15,7 +15,8 @@ use Rattle.desk.specs.House.{fileOk}
 use Rattle.desk.specs.Book.{bookHeader, bookFits, rowCount, techniqueCount, mostTechniques, techniqueSize, bookHeaderOk, techniqueBlock}
 use Rattle.desk.specs.Book.{techniqueEfficiency, techniqueOk, techniquesOk, rowStart, fieldsAt, fieldsOk, mostCoefficient, coefficientAt}
 use Rattle.desk.specs.Book.{rowOk, rowsOk, bookOk}
-use Rattle.desk.specs.Inner.{RowIn}
+use Rattle.desk.specs.Sheet.{sheetHeader, sheetHeaderSize, sheetFits, sheetHeaderOk, lineSize, lineStart, lineCount}
+use Rattle.desk.specs.Inner.{RowIn, LineIn}
 
 -- a loop over n that stops at a number where the test fails
 pub all-stopped : (p : ℕ → Bool) (n i : ℕ) → i < n → p i ≡ false → all n p ≡ false
@@ -73,6 +74,18 @@ row-in b h i l = omega (arith, header-lies b h)
 pub block-size : (b : List ℕ) → bookHeaderOk b ≡ true → length (techniqueBlock b) ≡ techniqueSize * techniqueCount b
 unfolding techniqueBlock
 block-size b h = let lies = header-lies b h in simp (length-take, length-drop) (omega arith)
+
+-- ---- where the sheet's header is right, its lines lie in the sheet
+
+pub line-in : (s : List ℕ) → sheetHeaderOk s ≡ true → (i : ℕ) → i < lineCount s → LineIn s (lineStart s i)
+unfolding sheetHeaderOk
+line-in s h i l =
+    let header = sheetHeader s in
+    let file = fileOk s 0 sheetHeaderSize in
+    let fits = and-right file (sheetFits header) h in
+    let whole : u32At s 0 ≡ length s = file-whole s 0 sheetHeaderSize (and-left file (sheetFits header) h) in
+    let last = leb-true (header .lineOffset + lineSize * header .lines) (header .length) (every-at _ fits 5) in
+    omega (arith, whole, last)
 
 -- ---- rows of a good book
 

@@ -14,7 +14,7 @@ use Rattle.settle.specs.Step.{shownTable}
 use Rattle.desk.specs.Key.{keyLess}
 use Rattle.desk.specs.Book.{rowCount, rowStart, keyAt, fieldsAt, techniqueCount, techniqueEfficiency, techniquesOk}
 use Rattle.desk.specs.Book.{fieldsOk, coefficientAt, mostCoefficient, bookOk}
-use Rattle.desk.specs.Sheet.{lineCount, sheetOk, mostLines}
+use Rattle.desk.specs.Sheet.{lineCount, lineSize, sheetOk, mostLines}
 use Rattle.desk.specs.Line.{mostKilograms}
 use Rattle.desk.specs.Lent.{Lent}
 use Rattle.desk.specs.Cells.{width, tableSize, cellsOf}
@@ -47,6 +47,10 @@ farthest = 8_589_934_592
 -- the bytes of a row that starts at `at` are there
 abbrev pub RowIn : (b : List ℕ) (at : ℕ) → Type 0
 RowIn b at = at + 24 ≤ length b
+
+-- the bytes of a line that starts at `at` are there
+abbrev pub LineIn : (s : List ℕ) (at : ℕ) → Type 0
+LineIn s at = at + lineSize ≤ length s
 
 -- ---- a key in two numbers
 

@@ -1,31 +1,26 @@
--- What a good book says of its rows.
-use Prim.Native.Nat.{ℕ, zero, suc, _+_, _*_, _^_, _≤_, _<_}
-use mathlib.Core.Bool.{true, _||_, not}
-use mathlib.Core.Path.{_≡_, refl}
-use mathlib.Core.List.{List, [], _∷_}
+-- What a good book says of its rows, and a right header of where rows and lines lie.
+use Prim.Native.Nat.{ℕ, zero, suc, _+_, _*_, _≤_, _<_}
+use mathlib.Core.Bool.{Bool, true, false, _||_, not}
+use mathlib.Core.Path.{_≡_, sym, _∙_}
+use mathlib.Core.List.{List}
 use native.Mathlib.Omega.{arith}
 use lib.Dec.{leb, eqb}
-use lib.ListN.{getD}
+use lib.ListN.{length, length-take, length-drop}
 use borrow.Author.Tests.{leb-true, eqb-true}
 use Rattle.amounts.specs.Line.{wholeShare}
+use Rattle.little.specs.Read.{u32At}
 use Rattle.search.specs.Test.{all}
-use Rattle.search.proofs.LawTest.{and-right, all-at, every-at}
+use Rattle.search.proofs.LawTest.{either-way, and-left, and-right, all-at, every-at}
 use Rattle.desk.specs.House.{fileOk}
-use Rattle.desk.specs.Book.{bookHeader, bookFits, rowCount, techniqueCount, mostTechniques, bookHeaderOk, techniqueBlock}
+use Rattle.desk.specs.Book.{bookHeader, bookFits, rowCount, techniqueCount, mostTechniques, techniqueSize, bookHeaderOk, techniqueBlock}
 use Rattle.desk.specs.Book.{techniqueEfficiency, techniqueOk, techniquesOk, rowStart, fieldsAt, fieldsOk, mostCoefficient, coefficientAt}
 use Rattle.desk.specs.Book.{rowOk, rowsOk, bookOk}
+use Rattle.desk.specs.Sheet.{sheetHeader, sheetHeaderSize, sheetFits, sheetHeaderOk, lineSize, lineStart, lineCount}
+use Rattle.desk.specs.Inner.{RowIn, LineIn}
 
--- the powers of ten that a coefficient is made with
-abbrev pub tens : List ℕ
-tens = 1 ∷ 10 ∷ 100 ∷ 1000 ∷ 10000 ∷ 100_000 ∷ 1_000_000 ∷ 10_000_000 ∷ 100_000_000 ∷ []
-
-pub ten-is : (e : ℕ) → e < 9 → getD tens e 0 ≡ 10 ^ e
-unfolding all
-ten-is e l = eqb-true (getD tens e 0) (10 ^ e) (all-at (λ k. eqb (getD tens k 0) (10 ^ k)) 9 e refl l)
-
-pub ten-most : (e : ℕ) → e < 9 → getD tens e 0 ≤ 100_000_000
-unfolding all
-ten-most e l = leb-true (getD tens e 0) 100_000_000 (all-at (λ k. leb (getD tens k 0) 100_000_000) 9 e refl l)
+-- a loop over n that stops at a number where the test fails
+pub all-stopped : (p : ℕ → Bool) (n i : ℕ) → i < n → p i ≡ false → all n p ≡ false
+all-stopped p n i l h = either-way (all n p) (λ a. let z : true ≡ false = sym (all-at p n i a l) ∙ h in cc) (λ a. a)
 
 -- the power of ten is one of these
 pub record Power (unit places : ℕ) : Type 0 where
@@ -48,15 +43,57 @@ fields-power b at h =
       within = places-most (fieldsAt b at .unit) (fieldsAt b at .places) some (leb-true (fieldsAt b at .places) 5 (every-at _ h 7)) (every-at _ h 8);
     }
 
-pub techniques-few : (b : List ℕ) → bookHeaderOk b ≡ true → techniqueCount b ≤ mostTechniques
+-- ---- where the header is right, the blocks lie in the book
+
+file-whole : (file : List ℕ) (origin header : ℕ) → fileOk file origin header ≡ true → u32At file origin ≡ length file
+unfolding fileOk
+file-whole file origin header h = eqb-true (u32At file origin) (length file) (every-at _ h 2)
+
+pub record Lies (b : List ℕ) : Type 0 where
+  pub few : techniqueCount b ≤ mostTechniques
+  pub rows : bookHeader b .rowOffset + 24 * rowCount b ≤ bookHeader b .techniqueOffset
+  pub techniques : bookHeader b .techniqueOffset + techniqueSize * techniqueCount b ≤ length b
+
+pub header-lies : (b : List ℕ) → bookHeaderOk b ≡ true → Lies b
 unfolding bookHeaderOk
-techniques-few b h =
+header-lies b h =
     let header = bookHeader b in
-    leb-true (techniqueCount b) mostTechniques (every-at _ (and-right (fileOk b (header .origin) (header .size)) (bookFits header) h) 1)
+    let file = fileOk b (header .origin) (header .size) in
+    let fits = and-right file (bookFits header) h in
+    let whole : u32At b 0 ≡ length b = file-whole b (header .origin) (header .size) (and-left file (bookFits header) h) in
+    let last = leb-true (header .techniqueOffset + techniqueSize * header .techniques) (header .length) (every-at _ fits 4) in
+    record {
+      few = leb-true (header .techniques) mostTechniques (every-at _ fits 1);
+      rows = leb-true (header .rowOffset + header .rowSize * header .rows) (header .techniqueOffset) (every-at _ fits 3);
+      techniques = omega (arith, whole, last);
+    }
+
+pub row-in : (b : List ℕ) → bookHeaderOk b ≡ true → (i : ℕ) → i < rowCount b → RowIn b (rowStart b i)
+row-in b h i l = omega (arith, header-lies b h)
+
+pub block-size : (b : List ℕ) → bookHeaderOk b ≡ true → length (techniqueBlock b) ≡ techniqueSize * techniqueCount b
+unfolding techniqueBlock
+block-size b h = let lies = header-lies b h in simp (length-take, length-drop) (omega arith)
+
+-- ---- where the sheet's header is right, its lines lie in the sheet
+
+pub line-in : (s : List ℕ) → sheetHeaderOk s ≡ true → (i : ℕ) → i < lineCount s → LineIn s (lineStart s i)
+unfolding sheetHeaderOk
+line-in s h i l =
+    let header = sheetHeader s in
+    let file = fileOk s 0 sheetHeaderSize in
+    let fits = and-right file (sheetFits header) h in
+    let whole : u32At s 0 ≡ length s = file-whole s 0 sheetHeaderSize (and-left file (sheetFits header) h) in
+    let last = leb-true (header .lineOffset + lineSize * header .lines) (header .length) (every-at _ fits 5) in
+    omega (arith, whole, last)
 
 -- ---- rows of a good book
 
 module _ (b : List ℕ) (good : bookOk b ≡ true) where
+  pub good-row-in : (i : ℕ) → i < rowCount b → RowIn b (rowStart b i)
+  unfolding bookOk
+  good-row-in i l = row-in b (and-left (bookHeaderOk b) (rowsOk b) good) i l
+
   pub row-good : (i : ℕ) → i < rowCount b → rowOk b (techniqueBlock b) i ≡ true
   unfolding bookOk
   row-good i l = all-at (rowOk b (techniqueBlock b)) (rowCount b) i (and-right (bookHeaderOk b) (rowsOk b) good) l

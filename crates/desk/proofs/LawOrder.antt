@@ -1,22 +1,25 @@
 -- The order of keys, and what rising rows make of a search that halves.
-use Prim.Native.Nat.{ℕ, zero, suc, _+_, _-_, _≤_, _<_}
+use Prim.Native.Nat.{ℕ, zero, suc, _+_, _*_, _-_, _≤_, _<_}
 use mathlib.Core.Path.{_≡_, refl, sym, ap, _∙_}
-use mathlib.Core.Bool.{true, false, _&&_, _||_}
-use mathlib.Core.List.{List, [], _∷_}
+use mathlib.Core.Bool.{Bool, true, false, _&&_, _||_, and-false, or-false}
+use mathlib.Core.List.{List, [], _∷_, map}
 use mathlib.Core.Logic.{_⊎_, inl, inr, ⊎-elim}
 use native.Mathlib.Nat.{le-of-suc-le-suc, eq-or-lt-of-le}
 use native.Mathlib.Omega.{arith}
-use borrow.Author.Tests.{ltb-true, eqb-true, lt-ltb, le-ltb, eq-eqb, ne-eqb}
+use borrow.Author.Tests.{ltb-true, ltb-false, eqb-true, eqb-false, lt-ltb, le-ltb, eq-eqb, ne-eqb}
 use lib.Dec.{ltb, eqb}
+use Rattle.little.specs.Read.{byteRange, u16Range, byteAt, u16At}
 use Rattle.search.specs.First.{first}
+use Rattle.search.specs.Test.{every}
 use Rattle.search.specs.declared.found.Found.the-variants.{At, Nothing}
 use Rattle.search.proofs.LawTest.{either-way, and-left, and-right, every-at}
 use Rattle.search.proofs.LawFirst.{first-start, first-here, first-rest}
-use Rattle.desk.specs.Key.{keyFields, before, keyLess, keySame}
+use Rattle.desk.specs.Key.{keyFrom, keyFields, before, keyLess, keySame}
 use Rattle.desk.specs.Book.{rowCount, rowStart, keyAt, rises, rowOk, bookOk}
 use Rattle.desk.specs.Row.{rowHas}
-use Rattle.desk.specs.Inner.{rowBefore, Cut}
+use Rattle.desk.specs.Inner.{rowBefore, Cut, Packs, SmallKey, keySmall, packedLess, rowFits}
 use Rattle.desk.specs.declared.key.Key.{Key}
+use Rattle.desk.specs.declared.key.Packed.{Packed}
 use Rattle.desk.proofs.LawBook.{row-good}
 
 -- ---- dictionary order
@@ -85,6 +88,116 @@ less-not-same a k h =
     either-way (keySame a k)
     (λ s. let z : true ≡ false = sym h ∙ ap (λ (l : List ℕ). before (keyFields a) l) (sym (same-fields a k s)) ∙ before-irrefl (keyFields a) in cc)
     (λ s. s)
+
+-- ---- keys in two numbers
+
+-- where the heads are numbers to the base 65536 their last digits may as well stand for themselves
+digit : (x y a b : ℕ) (r : Bool) → y < u16Range → b < u16Range
+    → (ltb (x * u16Range + y) (a * u16Range + b) || eqb (x * u16Range + y) (a * u16Range + b) && r) ≡ (ltb x a || eqb x a && (ltb y b || eqb y b && r))
+digit x y a b r hy hb =
+    let p = x * u16Range + y in
+    let q = a * u16Range + b in
+    either-way (ltb x a)
+    (λ l. rw (l, lt-ltb p q (omega (arith, ltb-true x a l))))
+    (λ l. either-way (eqb x a)
+    (λ e.
+    let s : x ≡ a = eqb-true x a e in
+    rw (l, e)
+    (either-way (ltb y b)
+    (λ m. rw (m, lt-ltb p q (omega (arith, s, ltb-true y b m))))
+    (λ m. either-way (eqb y b)
+    (λ f. rw (m, f, le-ltb p q (omega (arith, s, eqb-true y b f)), eq-eqb p q (omega (arith, s, eqb-true y b f))))
+    (λ f.
+    let g : b < y = omega (arith, ltb-false y b m, eqb-false y b f) in
+    rw (m, f, le-ltb p q (omega (arith, s)), ne-eqb p q (λ z. omega (arith, s)))))))
+    (λ e.
+    let g : a < x = omega (arith, ltb-false x a l, eqb-false x a e) in
+    rw (l, e, le-ltb p q (omega arith), ne-eqb p q (λ z. omega arith))))
+
+-- the same of the last number that is compared
+last-digit : (x y a b : ℕ) → y < u16Range → b < u16Range
+    → ltb (x * u16Range + y) (a * u16Range + b) ≡ (ltb x a || eqb x a && (ltb y b || eqb y b && false))
+last-digit x y a b hy hb =
+    let p = x * u16Range + y in
+    let q = a * u16Range + b in
+    let e : ltb p q ≡ (ltb p q || eqb p q && false) = rw (and-false, or-false) in
+    e ∙ digit x y a b false hy hb
+
+pub packed-is : (k l : Key) (p q : Packed) → Packs k p → Packs l q → packedLess p q ≡ keyLess k l
+unfolding keyLess
+packed-is k l p q K L =
+    let tail = before (k .scale ∷ k .medium ∷ k .pollutant ∷ []) (l .scale ∷ l .medium ∷ l .pollutant ∷ []) in
+    let two = ltb (k .pollutant) (l .pollutant) || eqb (k .pollutant) (l .pollutant) && false in
+    let low : ltb ((k .scale * u16Range + k .medium) * u16Range + k .pollutant) ((l .scale * u16Range + l .medium) * u16Range + l .pollutant) ≡ tail =
+    last-digit (k .scale * u16Range + k .medium) (k .pollutant) (l .scale * u16Range + l .medium) (l .pollutant) (K .pollutant) (L .pollutant)
+    ∙ digit (k .scale) (k .medium) (l .scale) (l .medium) two (K .medium) (L .medium) in
+    let four = ltb (k .process) (l .process) || eqb (k .process) (l .process) && tail in
+    let three = ltb (k .material) (l .material) || eqb (k .material) (l .material) && four in
+    let x = k .industry * u16Range + k .product in
+    let y = l .industry * u16Range + l .product in
+    rw (K .place, K .rest, L .place, L .rest, low)
+    (digit (x * u16Range + k .material) (k .process) (y * u16Range + l .material) (l .process) tail (K .process) (L .process)
+    ∙ digit x (k .material) y (l .material) four (K .material) (L .material)
+    ∙ digit (k .industry) (k .product) (l .industry) (l .product) three (K .product) (L .product))
+
+-- a row's test by itself and by the key that was kept of the row before it
+pub row-by-kept : (b t : List ℕ) (i : ℕ) (last key : Packed) → (0 < i → Packs (keyAt b (rowStart b (i - 1))) last) → Packs (keyAt b (rowStart b i)) key
+    → (rowFits b t (rowStart b i) && (eqb i 0 || packedLess last key)) ≡ rowOk b t i
+unfolding every rowOk rowFits rises
+row-by-kept b t zero last key L K = refl
+row-by-kept b t (suc i) last key L K =
+    rw (ne-eqb (suc i) 0 (λ q. omega arith), packed-is (keyAt b (rowStart b (suc i - 1))) (keyAt b (rowStart b (suc i))) last key (L (omega arith)) K)
+
+-- ---- keys that can be packed
+
+pub small-key : (k : Key) → keySmall k ≡ true → SmallKey k
+unfolding keySmall
+small-key k h =
+    record {
+      industry = ltb-true (k .industry) u16Range (every-at _ h 0);
+      product = ltb-true (k .product) u16Range (every-at _ h 1);
+      material = ltb-true (k .material) u16Range (every-at _ h 2);
+      process = ltb-true (k .process) u16Range (every-at _ h 3);
+      scale = ltb-true (k .scale) u16Range (every-at _ h 4);
+      medium = ltb-true (k .medium) u16Range (every-at _ h 5);
+      pollutant = ltb-true (k .pollutant) u16Range (every-at _ h 6);
+    }
+
+small-by : (x y : Key) → keyFields x ≡ keyFields y → keySmall x ≡ keySmall y
+unfolding keySmall
+small-by x y e = ap (λ (l : List ℕ). every (map (λ n. ltb n u16Range) l)) e
+
+module _ (b : List ℕ) (bytes : (i : ℕ) → byteAt b i < byteRange) where
+  code-small : (at : ℕ) → ltb (u16At b at) u16Range ≡ true
+  unfolding u16At
+  code-small at = lt-ltb (byteAt b at + byteRange * byteAt b (at + 1)) u16Range (omega (arith, bytes at, bytes (at + 1)))
+
+  byte-small : (at : ℕ) → ltb (byteAt b at) u16Range ≡ true
+  byte-small at = lt-ltb (byteAt b at) u16Range (omega (arith, bytes at))
+
+  row-small : (at : ℕ) → keySmall (keyAt b at) ≡ true
+  unfolding keySmall every keyFrom
+  row-small at =
+      rw (
+        code-small at,
+        code-small (at + 2),
+        code-small (at + 4),
+        code-small (at + 6),
+        code-small (at + 8),
+        byte-small (at + 10),
+        byte-small (at + 11),
+      )
+
+  large-has : (k : Key) (i : ℕ) → keySmall k ≡ false → rowHas b k i ≡ false
+  unfolding rowHas
+  large-has k i h =
+      let row = keyAt b (rowStart b i) in
+      either-way (keySame row k)
+      (λ s. let z : true ≡ false = sym (row-small (rowStart b i)) ∙ small-by row k (same-fields row k s) ∙ h in cc)
+      (λ s. s)
+
+  pub large-none : (k : Key) (n : ℕ) → keySmall k ≡ false → Nothing ≡ first n (rowHas b k)
+  large-none k n h = sym (first-rest (rowHas b k) 0 n (first-start (rowHas b k)) (omega arith) (λ i l m. large-has k i h))
 
 -- a cut whose ends have met
 pub cut-met : (b : List ℕ) (k : Key) (low high : ℕ) → Cut b k low high → high ≤ low → Cut b k low low

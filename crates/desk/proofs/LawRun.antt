@@ -13,8 +13,8 @@ use lib.ListN.{getD, length, set}
 use lib.Seq.{getD-set-same, getD-set-other}
 use Rattle.search.specs.Test.{all, every}
 use Rattle.search.proofs.LawTest.{either-way, and-left, and-right, all-at, all-of}
-use Rattle.desk.specs.Book.{techniqueCode, techniqueOk, techniquesOk}
-use Rattle.desk.specs.InnerRun.{lawful, runBefore, runOf, Runs, listOk}
+use Rattle.desk.specs.Book.{techniqueCode, techniqueEfficiency, techniqueOk, techniquesOk}
+use Rattle.desk.specs.InnerRun.{lawful, runBefore, runFrom, runOf, Runs, listOk}
 
 -- the c techniques from f on are lawful, and their codes rise
 record Good (t : List ℕ) (f c : ℕ) : Type 0 where
@@ -166,6 +166,11 @@ module _ (t : List ℕ) where
   listed size n first count runs r e R h = h ∙ ap (λ (m : ℕ). listOk runs m first count) e ∙ list-is size first count runs R
 
   -- ---- filling from the end
+
+  pub run-by-codes : (k next : ℕ) {code efficiency nextCode : ℕ} → code ≡ techniqueCode t k → efficiency ≡ techniqueEfficiency t k
+      → nextCode ≡ techniqueCode t (k + 1) → runFrom code efficiency nextCode next ≡ runBefore t k next
+  unfolding runBefore lawful
+  run-by-codes k next p q r = rw (p, q, r)
 
   pub run-none : (n k : ℕ) → n ≡ 0 → 0 ≡ runOf t n k
   unfolding runOf

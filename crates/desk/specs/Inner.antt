@@ -1,17 +1,20 @@
 -- What private functions ask and answer, beside what a promise says. Nothing here is needed to read a promise.
-use Prim.Native.Nat.{ℕ, _+_, _≤_, _<_}
+use Prim.Native.Nat.{ℕ, _+_, _*_, _≤_, _<_}
 use mathlib.Core.Path.{_≡_}
-use mathlib.Core.Bool.{Bool, true, false}
-use mathlib.Core.List.{List, _++_}
+use mathlib.Core.Bool.{Bool, true, false, _&&_, _||_}
+use mathlib.Core.List.{List, [], _∷_, _++_}
+use lib.Dec.{leb, ltb, eqb}
 use lib.ListN.{length, take, drop}
 use Rattle.amounts.specs.Line.{wholeShare}
 use Rattle.little.specs.Read.{u16Range}
+use Rattle.search.specs.Test.{every}
 use Rattle.settle.specs.Shown.{at}
 use Rattle.settle.specs.Table.{Good}
 use Rattle.settle.specs.Step.{shownTable}
 use Rattle.desk.specs.Key.{keyLess}
-use Rattle.desk.specs.Book.{rowCount, rowStart, keyAt, techniqueEfficiency, bookOk, mostCoefficient}
-use Rattle.desk.specs.Sheet.{lineCount, sheetOk, mostLines}
+use Rattle.desk.specs.Book.{rowCount, rowStart, keyAt, fieldsAt, techniqueCount, techniqueEfficiency, techniquesOk}
+use Rattle.desk.specs.Book.{fieldsOk, coefficientAt, mostCoefficient, bookOk}
+use Rattle.desk.specs.Sheet.{lineCount, lineSize, sheetOk, mostLines}
 use Rattle.desk.specs.Line.{mostKilograms}
 use Rattle.desk.specs.Lent.{Lent}
 use Rattle.desk.specs.Cells.{width, tableSize, cellsOf}
@@ -20,6 +23,7 @@ use Rattle.desk.specs.Table.{byLines, cellsAfter}
 use Rattle.desk.specs.Demands.{tableGrid, Demand3}
 use Rattle.desk.specs.Declare.{BothAfter}
 use Rattle.desk.specs.declared.key.Key.{Key}
+use Rattle.desk.specs.declared.key.Packed.{Packed}
 use Rattle.desk.specs.declared.line.Line.{Line}
 use Rattle.desk.specs.declared.row.Row.{Row}
 use Rattle.desk.specs.declared.row.RowSearch.{RowSearch}
@@ -40,6 +44,62 @@ counted = u16Range
 abbrev pub farthest : ℕ
 farthest = 8_589_934_592
 
+-- the bytes of a row that starts at `at` are there
+abbrev pub RowIn : (b : List ℕ) (at : ℕ) → Type 0
+RowIn b at = at + 24 ≤ length b
+
+-- the bytes of a line that starts at `at` are there
+abbrev pub LineIn : (s : List ℕ) (at : ℕ) → Type 0
+LineIn s at = at + lineSize ≤ length s
+
+-- ---- a key in two numbers
+
+-- the first four fields in one number and the last three in another, the first on top
+pub record Packs (k : Key) (p : Packed) : Type 0 where
+  pub place : p .place ≡ ((k .industry * u16Range + k .product) * u16Range + k .material) * u16Range + k .process
+  pub rest : p .rest ≡ (k .scale * u16Range + k .medium) * u16Range + k .pollutant
+  pub product : k .product < u16Range
+  pub material : k .material < u16Range
+  pub process : k .process < u16Range
+  pub medium : k .medium < u16Range
+  pub pollutant : k .pollutant < u16Range
+
+-- what can be packed: every field is a u16
+pub record SmallKey (k : Key) : Type 0 where
+  pub industry : k .industry < u16Range
+  pub product : k .product < u16Range
+  pub material : k .material < u16Range
+  pub process : k .process < u16Range
+  pub scale : k .scale < u16Range
+  pub medium : k .medium < u16Range
+  pub pollutant : k .pollutant < u16Range
+
+unfoldable pub keySmall : Key → Bool
+keySmall k =
+    every
+    (ltb (k .industry) u16Range
+    ∷ ltb (k .product) u16Range
+    ∷ ltb (k .material) u16Range
+    ∷ ltb (k .process) u16Range
+    ∷ ltb (k .scale) u16Range
+    ∷ ltb (k .medium) u16Range
+    ∷ ltb (k .pollutant) u16Range
+    ∷ [])
+
+abbrev pub packedLess : Packed → Packed → Bool
+packedLess a b = ltb (a .place) (b .place) || eqb (a .place) (b .place) && ltb (a .rest) (b .rest)
+
+-- ---- a row by itself
+
+-- the row that starts at `at` of a book whose technique block is t: all that `rowOk` asks but that it stands after the row before it
+unfoldable pub rowFits : (b t : List ℕ) (at : ℕ) → Bool
+rowFits b t at =
+    every
+    (fieldsOk b at
+    ∷ leb (coefficientAt b at) mostCoefficient
+    ∷ techniquesOk t (techniqueCount b) (fieldsAt b at .first) (fieldsAt b at .techniques)
+    ∷ [])
+
 -- ---- the row search
 
 -- row i stands before this key
@@ -52,6 +112,13 @@ pub record Cut (b : List ℕ) (k : Key) (low high : ℕ) : Type 0 where
   pub within : high ≤ rowCount b
   pub below : (i : ℕ) → i < low → rowBefore b k i ≡ true
   pub above : (i : ℕ) → high ≤ i → i < rowCount b → rowBefore b k i ≡ false
+
+-- the same for the key that is packed so
+abbrev pub PackedBefore : (b : List ℕ) (p : Packed) (i : ℕ) (r : Bool) → Type 0
+PackedBefore b p i r = (k : Key) → Packs k p → r ≡ rowBefore b k i
+
+abbrev pub PackedCut : (b : List ℕ) (p : Packed) (low high : ℕ) → Type 0
+PackedCut b p low high = (k : Key) → Packs k p → Cut b k low high
 
 -- a row's list lies below 2 ^ 17
 abbrev pub SmallRow : Row → Type 0

@@ -16,6 +16,10 @@ lawful t k = not (eqb (techniqueCode t k) 0) && leb (techniqueEfficiency t k) wh
 unfoldable pub runBefore : (t : List ℕ) (k next : ℕ) → ℕ
 runBefore t k next = cond (lawful t k) (cond (ltb (techniqueCode t k) (techniqueCode t (k + 1))) (next + 1) 1) 0
 
+-- the same by the numbers that it looks at: a technique's code and efficiency, and the code of the next
+abbrev pub runFrom : (code efficiency nextCode next : ℕ) → ℕ
+runFrom code efficiency nextCode next = cond (not (eqb code 0) && leb efficiency wholeShare) (cond (ltb code nextCode) (next + 1) 1) 0
+
 -- how many of the n techniques from k on are lawful, with codes that strictly rise
 unfoldable pub runOf : (t : List ℕ) (n k : ℕ) → ℕ
 runOf t zero k = 0

@@ -1,22 +1,27 @@
 // The coefficient book: its header, its rows and their techniques.
 ghost use mathlib.Core.Path.{_≡_};
 ghost use mathlib.Core.Bool.{true};
-ghost use Prim.Native.Nat.{_<_, _^_};
+ghost use Prim.Native.Nat.{_<_, _≤_, _^_};
+ghost use lib.ListN.{length};
 ghost use Rattle.little.specs.Read.{Reads, u32Range};
 ghost use Rattle.desk.specs.Book.{bookHeader, rowCount, techniqueCount, bookHeaderOk, techniqueBlock};
-ghost use Rattle.desk.specs.Book.{rowStart, keyAt, fieldsOk, coefficientAt, rises, rowOk, rowsOk, bookOk};
-ghost use Rattle.desk.specs.Inner.{counted, farthest};
+ghost use Rattle.desk.specs.Book.{rowStart, keyAt, fieldsOk, coefficientAt, rowsOk, bookOk};
+ghost use Rattle.desk.specs.Inner.{counted, farthest, RowIn, Packs, rowFits};
 ghost use Rattle.desk.specs.InnerRun.{Runs};
 use super::house::file_ok;
+use super::key::CODE_RANGE;
 use super::key::Key;
-use super::key::key_from;
-use super::key::key_less;
+use super::key::Packed;
+use super::key::key_in;
+use super::key::packed_less;
 use super::run::fill_runs;
 use super::run::list_ok;
 use little::part::part;
-use little::read::byte_at;
+use little::read::byte_in;
 use little::read::u16_at;
+use little::read::u16_in;
 use little::read::u32_at;
+use little::read::u32_in;
 
 pub const HEADER_SIZE: usize = 16;
 
@@ -86,23 +91,40 @@ pub(crate) fn row_start(b: &[u8], i: usize) -> usize
 }
 
 pub(crate) fn key_at(b: &[u8], at: usize) -> Key
-    requires { ⌜ at < farthest ⌝ }
+    requires { ⌜ RowIn (now b) at ⌝ }
     ensures { λ r. ⌜ r ≡ keyAt (now (b .entry)) at ⌝ }
 {
-    key_from(b, at, byte_at(b, at + 10), byte_at(b, at + 11))
+    key_in(b, at, byte_in(b, at + 10), byte_in(b, at + 11))
+}
+
+pub(crate) fn packed_at(b: &[u8], at: usize) -> Packed
+    requires { ⌜ RowIn (now b) at ⌝ }
+    ensures { λ r. ⌜ Packs (keyAt (now (b .entry)) at) r ⌝ }
+{
+    let industry = u16_in(b, at);
+    let product = u16_in(b, at + 2);
+    let material = u16_in(b, at + 4);
+    let process = u16_in(b, at + 6);
+    let scale = u16_in(b, at + 8);
+    let medium = byte_in(b, at + 10);
+    let pollutant = byte_in(b, at + 11);
+    Packed {
+        place: ((industry * CODE_RANGE + product) * CODE_RANGE + material) * CODE_RANGE + process,
+        rest: (scale * CODE_RANGE + medium) * CODE_RANGE + pollutant,
+    }
 }
 
 fn fields_ok(b: &[u8], at: usize) -> bool
-    requires { ⌜ at < farthest ⌝ }
+    requires { ⌜ RowIn (now b) at ⌝ }
     ensures { λ r. ⌜ r ≡ fieldsOk (now (b .entry)) at ⌝ }
 {
-    let medium = byte_at(b, at + 10);
-    let pollutant = byte_at(b, at + 11);
-    let basis = byte_at(b, at + 12);
-    let unit = byte_at(b, at + 13);
-    let places = byte_at(b, at + 14);
-    let rule = byte_at(b, at + 15);
-    let techniques = u16_at(b, at + 22);
+    let medium = byte_in(b, at + 10);
+    let pollutant = byte_in(b, at + 11);
+    let basis = byte_in(b, at + 12);
+    let unit = byte_in(b, at + 13);
+    let places = byte_in(b, at + 14);
+    let rule = byte_in(b, at + 15);
+    let techniques = u16_in(b, at + 22);
     (1 <= medium)
         & (medium <= 3)
         & (pollutant != 0)
@@ -116,86 +138,95 @@ fn fields_ok(b: &[u8], at: usize) -> bool
         & (((rule == 0) & (techniques == 0)) | ((rule != 0) & (techniques != 0)))
 }
 
-const TENS: [usize; 9] = [
-    1,
-    10,
-    100,
-    1000,
-    10000,
-    100_000,
-    1_000_000,
-    10_000_000,
-    100_000_000,
-];
-
+// A match, since a table would be laid out anew at each call.
 fn ten_to(e: usize) -> usize
     requires { ⌜ e < 9 ⌝ }
     ensures { λ r. ⌜ Reads r (10 ^ e) 100_000_001 ⌝ }
 {
-    TENS[e]
-}
-
-pub(crate) fn coefficient_at(b: &[u8], at: usize) -> usize
-    requires { ⌜ (at < farthest) × (fieldsOk (now b) at ≡ true) ⌝ }
-    ensures { λ r. ⌜ r ≡ coefficientAt (now (b .entry)) at ⌝ }
-{
-    let unit = byte_at(b, at + 13);
-    let places = byte_at(b, at + 14);
-    let digits = u32_at(b, at + 16);
-    digits * ten_to(3 * unit - 1 - places)
-}
-
-// Row i stands after the row before it.
-fn rises(b: &[u8], i: usize) -> bool
-    requires { ⌜ i < counted ⌝ }
-    ensures { λ r. ⌜ r ≡ rises (now (b .entry)) i ⌝ }
-{
-    if i == 0 {
-        true
-    } else {
-        key_less(key_at(b, row_start(b, i - 1)), key_at(b, row_start(b, i)))
+    match e {
+        0 => 1,
+        1 => 10,
+        2 => 100,
+        3 => 1000,
+        4 => 10000,
+        5 => 100_000,
+        6 => 1_000_000,
+        7 => 10_000_000,
+        _ => 100_000_000,
     }
 }
 
-fn row_ok(b: &[u8], runs: &[u16], i: usize) -> bool
-    requires { ⌜ (i < counted) × Runs (techniqueBlock (now b)) (techniqueCount (now b)) (now runs) ⌝ }
-    ensures { λ r. ⌜ r ≡ rowOk (now (b .entry)) (techniqueBlock (now (b .entry))) i ⌝ }
+pub(crate) fn coefficient_at(b: &[u8], at: usize) -> usize
+    requires { ⌜ RowIn (now b) at × (fieldsOk (now b) at ≡ true) ⌝ }
+    ensures { λ r. ⌜ r ≡ coefficientAt (now (b .entry)) at ⌝ }
 {
-    let size = technique_count(b);
-    let at = row_start(b, i);
+    let unit = byte_in(b, at + 13);
+    let places = byte_in(b, at + 14);
+    let digits = u32_in(b, at + 16);
+    digits * ten_to(3 * unit - 1 - places)
+}
+
+// A row by itself, with the table of runs.
+fn row_fits(b: &[u8], runs: &[u16], size: usize, at: usize) -> bool
+    requires { ⌜ RowIn (now b) at × (size ≡ techniqueCount (now b)) × Runs (techniqueBlock (now b)) size (now runs) ⌝ }
+    ensures { λ r. ⌜ r ≡ rowFits (now (b .entry)) (techniqueBlock (now (b .entry))) at ⌝ }
+{
     if fields_ok(b, at) {
-        let first = u16_at(b, at + 20);
-        let techniques = u16_at(b, at + 22);
-        (coefficient_at(b, at) <= MOST_COEFFICIENT)
-            & list_ok(runs, size, first, techniques)
-            & rises(b, i)
+        let first = u16_in(b, at + 20);
+        let techniques = u16_in(b, at + 22);
+        (coefficient_at(b, at) <= MOST_COEFFICIENT) & list_ok(runs, size, first, techniques)
     } else {
         false
     }
 }
 
+// Each row's key is kept for the row after it, so that none is read twice.
 fn rows_ok(b: &[u8], runs: &[u16]) -> bool
-    requires { ⌜ Runs (techniqueBlock (now b)) (techniqueCount (now b)) (now runs) ⌝ }
+    requires { ⌜ (bookHeaderOk (now b) ≡ true) × Runs (techniqueBlock (now b)) (techniqueCount (now b)) (now runs) ⌝ }
     ensures { λ r. ⌜ r ≡ rowsOk (now (b .entry)) ⌝ }
 {
     let rows = row_count(b);
-    let mut ok = true;
+    let size = technique_count(b);
+    let mut last = Packed { place: 0, rest: 0 };
+    let mut at = row_offset(b);
     let mut i = 0;
     while i < rows {
-        ok = ok & row_ok(b, runs, i);
-        i += 1;
+        let key = packed_at(b, at);
+        let rises = (i == 0) | packed_less(last, key);
+        if row_fits(b, runs, size, at) & rises {
+            last = key;
+            at += ROW_SIZE;
+            i += 1;
+        } else {
+            return false;
+        }
     }
-    ok
+    true
 }
+
+fn checked(b: &[u8], runs: &mut [u16]) -> bool
+    requires { ⌜ (bookHeaderOk (now b) ≡ true) × (techniqueCount (now b) ≤ length (now runs)) ⌝ }
+    ensures { λ r. ⌜ r ≡ rowsOk (now (b .entry)) ⌝ }
+{
+    fill_runs(technique_block(b), technique_count(b), runs);
+    rows_ok(b, runs)
+}
+
+// A table is cleared before it is filled, so that a book of few techniques has a small one.
+const FEW_TECHNIQUES: usize = 256;
 
 // Whether a book of any content and size is right. Rows are looked at only where the header is, so that no wrong count is walked.
 pub fn book_ok(b: &[u8]) -> bool
     ensures { λ r. ⌜ r ≡ bookOk (now (b .entry)) ⌝ }
 {
     if book_header_ok(b) {
-        let mut runs = [0u16; MOST_TECHNIQUES];
-        fill_runs(technique_block(b), technique_count(b), &mut runs);
-        rows_ok(b, &runs)
+        if technique_count(b) <= FEW_TECHNIQUES {
+            let mut runs = [0u16; FEW_TECHNIQUES];
+            checked(b, &mut runs)
+        } else {
+            let mut runs = [0u16; MOST_TECHNIQUES];
+            checked(b, &mut runs)
+        }
     } else {
         false
     }

@@ -4,18 +4,22 @@ ghost use mathlib.Core.Bool.{true};
 ghost use Prim.Native.Nat.{_<_};
 ghost use Rattle.search.specs.First.{Finds, first};
 ghost use Rattle.desk.specs.Book.{rowCount, rowStart, fieldsOk, bookOk};
-ghost use Rattle.desk.specs.Inner.{counted, rowBefore, Cut, ReadsRow, FindsRow};
+ghost use Rattle.desk.specs.Inner.{counted, RowIn, PackedBefore, PackedCut, ReadsRow, FindsRow};
 ghost use Rattle.desk.specs.Row.{rowHas, rowIndex, rowAt, rowOf};
 use super::book::coefficient_at;
 use super::book::key_at;
+use super::book::packed_at;
 use super::book::row_count;
 use super::book::row_start;
 use super::key::Key;
+use super::key::Packed;
 use super::key::all_scales;
-use super::key::key_less;
 use super::key::key_same;
-use little::read::byte_at;
-use little::read::u16_at;
+use super::key::key_small;
+use super::key::pack;
+use super::key::packed_less;
+use little::read::byte_in;
+use little::read::u16_in;
 use search::found::Found;
 
 // What a line is accounted for by: units per kilogram, and the list of techniques in the block.
@@ -33,29 +37,29 @@ pub enum RowSearch {
 }
 
 fn row_has(b: &[u8], k: Key, i: usize) -> bool
-    requires { ⌜ i < counted ⌝ }
+    requires { ⌜ (i < counted) × RowIn (now b) (rowStart (now b) i) ⌝ }
     ensures { λ r. ⌜ r ≡ rowHas (now (b .entry)) k i ⌝ }
 {
     key_same(key_at(b, row_start(b, i)), k)
 }
 
-fn row_before(b: &[u8], k: Key, i: usize) -> bool
-    requires { ⌜ i < counted ⌝ }
-    ensures { λ r. ⌜ r ≡ rowBefore (now (b .entry)) k i ⌝ }
+fn row_before(b: &[u8], wanted: Packed, i: usize) -> bool
+    requires { ⌜ (i < counted) × RowIn (now b) (rowStart (now b) i) ⌝ }
+    ensures { λ r. ⌜ PackedBefore (now (b .entry)) wanted i r ⌝ }
 {
-    key_less(key_at(b, row_start(b, i)), k)
+    packed_less(packed_at(b, row_start(b, i)), wanted)
 }
 
 // How many rows stand before the key: rows rise, so that half of those in question fall away at each turn.
-fn rows_before(b: &[u8], k: Key) -> usize
+fn rows_before(b: &[u8], wanted: Packed) -> usize
     requires { ⌜ bookOk (now b) ≡ true ⌝ }
-    ensures { λ r. ⌜ Cut (now (b .entry)) k r r ⌝ }
+    ensures { λ r. ⌜ PackedCut (now (b .entry)) wanted r r ⌝ }
 {
     let mut low = 0;
     let mut high = row_count(b);
     while low < high {
         let middle = low + (high - low) / 2;
-        if row_before(b, k, middle) {
+        if row_before(b, wanted, middle) {
             low = middle + 1;
         } else {
             high = middle;
@@ -64,14 +68,17 @@ fn rows_before(b: &[u8], k: Key) -> usize
     low
 }
 
+// A row's fields are u16 or less, so that no row has a key with a larger one.
 fn index_of(b: &[u8], k: Key) -> Found
     requires { ⌜ bookOk (now b) ≡ true ⌝ }
     ensures { λ r. ⌜ Finds r (first (rowCount (now (b .entry))) (rowHas (now (b .entry)) k)) counted ⌝ }
 {
-    let i = rows_before(b, k);
-    if i < row_count(b) {
-        if row_has(b, k, i) {
-            return Found::At(i);
+    if key_small(k) {
+        let i = rows_before(b, pack(k));
+        if i < row_count(b) {
+            if row_has(b, k, i) {
+                return Found::At(i);
+            }
         }
     }
     Found::Nothing
@@ -89,16 +96,16 @@ pub(crate) fn row_index(b: &[u8], k: Key) -> Found
 }
 
 fn row_at(b: &[u8], i: usize) -> Row
-    requires { ⌜ (i < counted) × (fieldsOk (now b) (rowStart (now b) i) ≡ true) ⌝ }
+    requires { ⌜ (i < counted) × RowIn (now b) (rowStart (now b) i) × (fieldsOk (now b) (rowStart (now b) i) ≡ true) ⌝ }
     ensures { λ r. ⌜ ReadsRow r (rowAt (now (b .entry)) i) ⌝ }
 {
     let at = row_start(b, i);
     Row {
         coefficient: coefficient_at(b, at) as u64,
-        basis: byte_at(b, at + 12),
-        rule: byte_at(b, at + 15),
-        first: u16_at(b, at + 20),
-        techniques: u16_at(b, at + 22),
+        basis: byte_in(b, at + 12),
+        rule: byte_in(b, at + 15),
+        first: u16_in(b, at + 20),
+        techniques: u16_in(b, at + 22),
     }
 }
 

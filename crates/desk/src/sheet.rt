@@ -1,14 +1,16 @@
 // The sheet: its header, and what may stand in a line.
 ghost use mathlib.Core.Path.{_≡_};
+ghost use mathlib.Core.Bool.{true};
 ghost use Prim.Native.Nat.{_<_};
 ghost use Rattle.little.specs.Read.{Reads};
-ghost use Rattle.desk.specs.Inner.{counted, farthest};
+ghost use Rattle.desk.specs.Inner.{counted, farthest, LineIn};
 ghost use Rattle.desk.specs.Sheet.{sheetHeaderOk, lineStart, lineOk, linesOk, lineCount, sheetOk};
 use super::house::file_ok;
 use little::read::byte_at;
+use little::read::byte_in;
 use little::read::u16_at;
 use little::read::u32_at;
-use little::read::u64_at;
+use little::read::u64_in;
 
 pub const HEADER_SIZE: usize = 16;
 
@@ -51,14 +53,15 @@ pub(crate) fn line_start(s: &[u8], i: usize) -> usize
 }
 
 fn line_ok(s: &[u8], i: usize) -> bool
-    requires { ⌜ i < counted ⌝ }
+    requires { ⌜ (i < counted) × LineIn (now s) (lineStart (now s) i) ⌝ }
     ensures { λ r. ⌜ r ≡ lineOk (now (s .entry)) i ⌝ }
 {
     let at = line_start(s, i);
-    (byte_at(s, at + 14) <= 3) & (byte_at(s, at + 15) == 0) & (u64_at(s, at + 56) == 0)
+    (byte_in(s, at + 14) <= 3) & (byte_in(s, at + 15) == 0) & (u64_in(s, at + 56) == 0)
 }
 
 fn lines_ok(s: &[u8]) -> bool
+    requires { ⌜ sheetHeaderOk (now s) ≡ true ⌝ }
     ensures { λ r. ⌜ r ≡ linesOk (now (s .entry)) ⌝ }
 {
     let lines = line_count(s);

@@ -1,13 +1,15 @@
 // The technique search. It is handed the technique block alone.
 ghost use mathlib.Core.Path.{_≡_};
-ghost use Prim.Native.Nat.{_<_, _+_};
+ghost use Prim.Native.Nat.{_<_, _≤_, _+_, _*_};
+ghost use lib.ListN.{length};
 ghost use Rattle.search.specs.First.{Finds};
 ghost use Rattle.little.specs.Read.{Reads};
-ghost use Rattle.desk.specs.Book.{techniqueCode, techniqueEfficiency};
+ghost use Rattle.desk.specs.Book.{techniqueSize, techniqueCode, techniqueEfficiency};
 ghost use Rattle.desk.specs.Inner.{counted};
 ghost use Rattle.desk.specs.Technique.{techniqueIndex};
 use super::book::TECHNIQUE_SIZE;
 use little::read::u16_at;
+use little::read::u16_in;
 use search::found::Found;
 
 // The place, in a row's list of `count` techniques that begins at `from`, of the one with this code.
@@ -37,4 +39,18 @@ pub(crate) fn efficiency_at(t: &[u8], k: usize) -> usize
     ensures { λ r. ⌜ Reads r (techniqueEfficiency (now (t .entry)) k) counted ⌝ }
 {
     u16_at(t, TECHNIQUE_SIZE * k + 2)
+}
+
+pub(crate) fn code_in(t: &[u8], k: usize) -> usize
+    requires { ⌜ techniqueSize * k + techniqueSize ≤ length (now t) ⌝ }
+    ensures { λ r. ⌜ Reads r (techniqueCode (now (t .entry)) k) counted ⌝ }
+{
+    u16_in(t, TECHNIQUE_SIZE * k)
+}
+
+pub(crate) fn efficiency_in(t: &[u8], k: usize) -> usize
+    requires { ⌜ techniqueSize * k + techniqueSize ≤ length (now t) ⌝ }
+    ensures { λ r. ⌜ Reads r (techniqueEfficiency (now (t .entry)) k) counted ⌝ }
+{
+    u16_in(t, TECHNIQUE_SIZE * k + 2)
 }

@@ -1,7 +1,8 @@
 //! The benchmark: the proved desk beside plain Rust in one run, on the same
 //! inputs, by turns. Prints a table in markdown.
 //!
-//! Usage: `speed [ROUNDS]`, by default 200 rounds a case.
+//! Usage: `speed [ROUNDS [WORD]]`, by default 200 rounds a case, and only the
+//! cases that have the word in their names.
 
 use peer::compare::{compare, earlier_cells, run_plain, Case};
 use peer::make::{Book, Line, Random, Row, Sheet, Technique};
@@ -20,7 +21,8 @@ fn main() {
     );
     println!("| Case | Proved desk | Plain Rust | Ratio |");
     println!("|---|---|---|---|");
-    for (name, case) in cases() {
+    let wanted = std::env::args().nth(2).unwrap_or_default();
+    for (name, case) in cases().into_iter().filter(|(name, _)| name.contains(&wanted)) {
         let outcome = compare(&case).expect("both desks agree on the case");
         assert!(outcome.is_accepted(), "{name} is {outcome}");
         let (proved, plain) = measure(&case, rounds);

@@ -18,16 +18,14 @@ pub fn removed(generated: u64, efficiency: u16, k: Fraction) -> u64 {
 }
 
 impl Amounts {
-    /// Reuse in tenths of a percent where the medium is water.
+    /// Reuse in tenths of a percent where the medium is water. What is left is
+    /// split into thousands and the rest, so that nothing wraps in u64; rounding
+    /// reuse down is rounding the discharge up.
     pub fn new(generated: u64, removed: u64, reuse: Option<u16>) -> Self {
-        let left = (generated - removed) as u128;
-        let reuse = reuse.unwrap_or(0) as u128;
-        Amounts {
-            generated,
-            removed,
-            reused: (left * reuse / 1000) as u64,
-            discharged: (left * (1000 - reuse)).div_ceil(1000) as u64,
-        }
+        let left = generated - removed;
+        let reuse = reuse.unwrap_or(0) as u64;
+        let reused = left / 1000 * reuse + left % 1000 * reuse / 1000;
+        Amounts { generated, removed, reused, discharged: left - reused }
     }
 
     /// Sums of 128 lines stay below 128 × 10^17, which u64 holds.

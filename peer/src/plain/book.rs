@@ -11,6 +11,15 @@ const MOST_TECHNIQUES: usize = 4096;
 const MOST_COEFFICIENT: u64 = 100_000_000;
 const MOST_EFFICIENCY: u16 = 1000;
 
+/// 10^(2 - places), 10^(5 - places) and 10^(8 - places) for units 1, 2, 3; 0
+/// for units and places that no row may have.
+const POWERS: [[u64; 6]; 4] = [
+    [0; 6],
+    [100, 10, 1, 0, 0, 0],
+    [100_000, 10_000, 1000, 100, 10, 1],
+    [100_000_000, 10_000_000, 1_000_000, 100_000, 10_000, 1000],
+];
+
 /// A book that is well formed.
 pub struct Book<'a> {
     rows: &'a [[u8; ROW]],
@@ -27,12 +36,14 @@ pub struct Row<'a> {
 }
 
 impl<'a> Book<'a> {
+    /// One pass over the techniques and one over the rows, whatever the lists.
     pub fn read(file: &'a [u8]) -> Option<Self> {
         let book = Self::blocks(file)?;
+        let runs = runs(book.techniques);
         let mut last_key = None;
         for row in book.rows {
             let key = Some(row_key(row));
-            if last_key >= key || !book.row_is_well_formed(row) {
+            if last_key >= key || !row_is_well_formed(row, &runs) {
                 return None;
             }
             last_key = key;
@@ -64,23 +75,25 @@ impl<'a> Book<'a> {
         })
     }
 
-    fn row_is_well_formed(&self, row: &[u8; ROW]) -> bool {
-        let (medium, pollutant, basis) = (row[10], row[11], row[12]);
-        let (unit, places, k_rule) = (row[13], row[14], row[15]);
-        let techniques = u16_at(row, 22);
-        let k_rule_fits = match techniques {
-            0 => k_rule == 0,
-            _ => k_rule == 1 || k_rule == 2,
-        };
-        (1..=3).contains(&medium)
-            && pollutant != 0
-            && (1..=2).contains(&basis)
-            && coefficient(unit, places, u32_at(row, 16)).is_some_and(|c| c <= MOST_COEFFICIENT)
-            && k_rule_fits
-            && self.techniques_of(row).is_some_and(techniques_are_well_formed)
+    /// The row of the exact scale, else the one for all scales. A place is
+    /// industry, product, material and process.
+    pub fn find(&self, place: u64, scale: u16, medium: u8, pollutant: u8) -> Option<Row<'a>> {
+        let row = self
+            .row_with(key(place, scale, medium, pollutant))
+            .or_else(|| self.row_with(key(place, 0, medium, pollutant)))?;
+        Some(Row {
+            by_product: row[12] == 1,
+            coefficient: coefficient(row)?,
+            k_rule: row[15],
+            techniques: self.techniques_of(row)?,
+        })
     }
 
-    /// The row's part of the technique block, if it lies in the block.
+    fn row_with(&self, wanted: Key) -> Option<&'a [u8; ROW]> {
+        let found = self.rows.binary_search_by_key(&wanted, row_key);
+        found.ok().map(|index| &self.rows[index])
+    }
+
     fn techniques_of(&self, row: &[u8; ROW]) -> Option<&'a [[u8; TECHNIQUE]]> {
         let first = u16_at(row, 20) as usize;
         let number = u16_at(row, 22) as usize;
@@ -88,25 +101,6 @@ impl<'a> Book<'a> {
             0 => Some(&[]),
             _ => self.techniques.get(first..first + number),
         }
-    }
-
-    /// The row of the exact scale, else the one for all scales. A place is
-    /// industry, product, material and process.
-    pub fn find(&self, place: [u16; 4], scale: u16, medium: u8, pollutant: u8) -> Option<Row<'a>> {
-        let row = self
-            .row_with(key(place, scale, medium, pollutant))
-            .or_else(|| self.row_with(key(place, 0, medium, pollutant)))?;
-        Some(Row {
-            by_product: row[12] == 1,
-            coefficient: coefficient(row[13], row[14], u32_at(row, 16))?,
-            k_rule: row[15],
-            techniques: self.techniques_of(row)?,
-        })
-    }
-
-    fn row_with(&self, wanted: u128) -> Option<&'a [u8; ROW]> {
-        let found = self.rows.binary_search_by_key(&wanted, row_key);
-        found.ok().map(|index| &self.rows[index])
     }
 }
 
@@ -120,36 +114,64 @@ impl Row<'_> {
     }
 }
 
-fn techniques_are_well_formed(techniques: &[[u8; TECHNIQUE]]) -> bool {
-    // Starting from 0, a strictly rising code is never 0.
-    let mut last_code = 0;
-    techniques.iter().all(|technique| {
+/// How many techniques from each place on are right and rise by their codes,
+/// the last place first. A row's list is right if it is no longer than that.
+/// Masks instead of branches, since a hostile block can't be foretold.
+fn runs(techniques: &[[u8; TECHNIQUE]]) -> Vec<u16> {
+    let mask = |test: bool| (test as u16).wrapping_neg();
+    let mut next_code = 0;
+    let mut run = 0;
+    let run_from = |technique: &[u8; TECHNIQUE]| {
         let code = u16_at(technique, 0);
-        let rises = last_code < code;
-        last_code = code;
-        rises && u16_at(technique, 2) <= MOST_EFFICIENCY
-    })
+        let right = (code != 0) & (u16_at(technique, 2) <= MOST_EFFICIENCY);
+        run = ((run & mask(code < next_code)) + 1) & mask(right);
+        next_code = code;
+        run
+    };
+    techniques.iter().rev().map(run_from).collect()
+}
+
+fn row_is_well_formed(row: &[u8; ROW], runs: &[u16]) -> bool {
+    let (medium, pollutant, basis, k_rule) = (row[10], row[11], row[12], row[15]);
+    let first = u16_at(row, 20) as usize;
+    let number = u16_at(row, 22);
+    let list_is_right = match number {
+        0 => k_rule == 0,
+        // Places count from the end; one past the block wraps and isn't there.
+        _ => {
+            let place = runs.len().wrapping_sub(first + 1);
+            (k_rule == 1 || k_rule == 2) && runs.get(place).is_some_and(|&run| number <= run)
+        }
+    };
+    (1..=3).contains(&medium)
+        && pollutant != 0
+        && (1..=2).contains(&basis)
+        && coefficient(row).is_some_and(|c| c <= MOST_COEFFICIENT)
+        && list_is_right
 }
 
 /// Units of 10 micrograms per kilogram, if unit and places are well formed.
-fn coefficient(unit: u8, places: u8, digits: u32) -> Option<u64> {
-    let (zeros, most_places) = match unit {
-        1 => (2, 2),
-        2 => (5, 5),
-        3 => (8, 5),
-        _ => return None,
-    };
-    (places <= most_places).then(|| digits as u64 * 10u64.pow(zeros - places as u32))
+fn coefficient(row: &[u8; ROW]) -> Option<u64> {
+    let power = *POWERS.get(row[13] as usize)?.get(row[14] as usize)?;
+    (power != 0).then(|| u32_at(row, 16) as u64 * power)
 }
 
-/// Keys as whole numbers rise as the tuples (industry, product, material,
-/// process, scale, medium, pollutant) do.
-fn key(place: [u16; 4], scale: u16, medium: u8, pollutant: u8) -> u128 {
-    let place = place.iter().fold(0u128, |key, &part| key << 16 | part as u128);
-    place << 32 | (scale as u128) << 16 | (medium as u128) << 8 | pollutant as u128
+/// Industry, product, material and process as one number, the first of them
+/// on top, which stand one after the other in a row or a line.
+pub fn place(bytes: &[u8; 8]) -> u64 {
+    const LOW_CODES: u64 = 0x0000_FFFF_0000_FFFF;
+    let halves = u64::from_le_bytes(*bytes).rotate_left(32);
+    (halves & LOW_CODES) << 16 | halves >> 16 & LOW_CODES
 }
 
-fn row_key(row: &[u8; ROW]) -> u128 {
-    let place = [0, 2, 4, 6].map(|at| u16_at(row, at));
-    key(place, u16_at(row, 8), row[10], row[11])
+/// Keys rise as the tuples (industry, product, material, process, scale,
+/// medium, pollutant) do: the place decides, or else the rest.
+type Key = (u64, u32);
+
+fn key(place: u64, scale: u16, medium: u8, pollutant: u8) -> Key {
+    (place, (scale as u32) << 16 | (medium as u32) << 8 | pollutant as u32)
+}
+
+fn row_key(row: &[u8; ROW]) -> Key {
+    key(place(row.first_chunk().unwrap()), u16_at(row, 8), row[10], row[11])
 }

@@ -37,6 +37,11 @@ const MOST_BYTES: usize = 65_536;
 const MOST_KILOGRAMS: u64 = 1_000_000_000;
 const MOST_REUSE: u16 = 1000;
 
+/// The shown units in units of 10 micrograms.
+const GRAM: u64 = 100_000;
+const KILOGRAM: u64 = 100_000_000;
+const TONNE: u64 = 100_000_000_000;
+
 /// Accounts for one sheet. On refusal all cells of both results are zero; on
 /// acceptance cells past the tables keep their values.
 pub fn account(

@@ -64,12 +64,13 @@ pub fn thousandths(bits: u64) -> Option<u64> {
         1076.. => None,
         // Below 2^-11, which is less than half a thousandth.
         0..=1011 => Some(0),
-        // x = mantissa / 2^down, so the answer is (2000 mantissa + 2^down) / 2^(down+1).
+        // x = mantissa / 2^down, so the answer is (1000 mantissa + 2^down / 2) / 2^down.
+        // 1000 mantissa is below 2^63, and so is 2^down / 2.
         _ => {
             let mantissa = fraction | 1 << 52;
             let down = 1075 - exponent;
-            let doubled = 2000 * mantissa as u128 + (1u128 << down);
-            Some((doubled >> (down + 1)) as u64)
+            let half = (1u64 << down) >> 1;
+            Some((1000 * mantissa + half) >> down)
         }
     }
 }

@@ -1,7 +1,8 @@
 //! The sheet: checked once as a whole, then read line by line.
 
+use super::book::place;
 use super::bytes::{u16_at, u32_at, u64_at};
-use super::MOST_BYTES;
+use super::{GRAM, KILOGRAM, MOST_BYTES, TONNE};
 
 const HEADER: usize = 16;
 const LINE: usize = 64;
@@ -20,7 +21,7 @@ pub struct Sheet<'a> {
 
 pub struct Line {
     /// Industry, product, material, process.
-    pub place: [u16; 4],
+    pub place: u64,
     pub scale: u16,
     pub technique: u16,
     pub reuse: u16,
@@ -75,9 +76,9 @@ impl<'a> Sheet<'a> {
 
 fn shown_unit(code: u32) -> Option<u64> {
     match code {
-        1 => Some(100_000),
-        2 => Some(100_000_000),
-        3 => Some(100_000_000_000),
+        1 => Some(GRAM),
+        2 => Some(KILOGRAM),
+        3 => Some(TONNE),
         _ => None,
     }
 }
@@ -88,7 +89,7 @@ fn line_is_well_formed(line: &[u8; LINE]) -> bool {
 
 fn read_line(line: &[u8; LINE]) -> Line {
     Line {
-        place: [0, 2, 4, 6].map(|at| u16_at(line, at)),
+        place: place(line.first_chunk().unwrap()),
         scale: u16_at(line, 8),
         technique: u16_at(line, 10),
         reuse: u16_at(line, 12),

@@ -6,172 +6,184 @@
 //! unit makes at least one cell whole.
 //!
 //! Rows are taken one after another. Among the rows still open there is never
-//! a round, so with four columns at most three of them stay open.
+//! a round, so with four columns at most three of them stay open, and a new
+//! one finds a free place among four.
+
+use super::{GRAM, KILOGRAM, TONNE};
 
 const COLUMNS: usize = 4;
+const PLACES: usize = 4;
 const GENERATED: usize = 0;
 
-/// A row with loose cells. Its parts are what its cells have above the whole
-/// unit below: 0 or `unit` for a whole cell, between them for a loose one.
-#[derive(Clone, Copy)]
-struct OpenRow {
-    row: usize,
-    is_last: bool,
-    parts: [u64; COLUMNS],
-    loose: Columns,
+/// A set of cells of the open rows: bit 4 place + column.
+type Cells = u16;
+
+/// The cells of place 0, and those of column 0.
+const FIRST_ROW: Cells = 0b1111;
+const FIRST_COLUMN: Cells = 0x1111;
+
+/// The open rows. A part is what a cell has above the whole unit below: 0 or
+/// `UNIT` for a whole cell, between them for a loose one.
+struct Open<const UNIT: u64> {
+    loose: Cells,
+    parts: [u64; PLACES * COLUMNS],
+    row_at: [usize; PLACES],
+    last_row: usize,
 }
 
-/// A set of columns, a bit for each.
-type Columns = u8;
-
-/// A cell of a round: the place in the list of open rows and the column.
-type Corner = (usize, usize);
-
-/// A walk over corners; each row and column is met at most once more.
-#[derive(Default)]
-struct Round {
-    corners: [Corner; 2 * COLUMNS + 2],
+/// A walk over cells by turns along a row and a column; each row and column is
+/// met at most once more.
+struct Walk {
+    cells: [u8; 2 * COLUMNS + 2],
     length: usize,
 }
 
-impl Round {
-    fn push(&mut self, corner: Corner) {
-        self.corners[self.length] = corner;
-        self.length += 1;
-    }
-
-    fn from(mut self, begin: usize) -> Round {
-        self.corners.rotate_left(begin);
-        self.length -= begin;
-        self
-    }
-
-    fn corners(&self) -> &[Corner] {
-        &self.corners[..self.length]
+impl Walk {
+    /// Says how many cells came before.
+    fn push(&mut self, cell: usize) -> usize {
+        let before = self.length;
+        self.cells[before] = cell as u8;
+        self.length = before + 1;
+        before
     }
 }
 
+/// Each unit has a copy of its own, which divides by a number that is known.
 pub fn fill(exact: &[u64], unit: u64, shown: &mut [u64]) {
-    let rows = exact.len() / COLUMNS;
-    let mut open: Vec<OpenRow> = Vec::with_capacity(COLUMNS);
-    for row in 0..rows {
-        let cells = row * COLUMNS..(row + 1) * COLUMNS;
-        let (mut parts, mut loose) = ([0; COLUMNS], 0);
-        for (column, at) in cells.enumerate() {
-            shown[at] = exact[at] / unit;
-            parts[column] = exact[at] % unit;
-            loose |= ((parts[column] != 0) as Columns) << column;
-        }
-        if loose != 0 {
-            open.push(OpenRow { row, is_last: row + 1 == rows, parts, loose });
-            settle_rounds(&mut open, unit, shown);
+    match unit {
+        GRAM => fill_in::<GRAM>(exact, shown),
+        KILOGRAM => fill_in::<KILOGRAM>(exact, shown),
+        _ => fill_in::<TONNE>(exact, shown),
+    }
+}
+
+fn fill_in<const UNIT: u64>(exact: &[u64], shown: &mut [u64]) {
+    let rows = exact.as_chunks::<COLUMNS>().0;
+    let shown = shown.as_chunks_mut::<COLUMNS>().0;
+    let mut open = Open::<UNIT> {
+        loose: 0,
+        parts: [0; PLACES * COLUMNS],
+        row_at: [0; PLACES],
+        last_row: rows.len().saturating_sub(1),
+    };
+    for (row, cells) in rows.iter().enumerate() {
+        shown[row] = cells.map(|cell| cell / UNIT);
+        let parts = cells.map(|cell| cell % UNIT);
+        if parts != [0; COLUMNS] {
+            open.take(row, parts);
+            open.settle(shown);
         }
     }
 }
 
-/// Shifts rounds until none is left, and closes rows that have become whole.
-fn settle_rounds(open: &mut Vec<OpenRow>, unit: u64, shown: &mut [u64]) {
-    while let Some(round) = find_round(open) {
-        shift(open, round.corners(), unit);
-        open.retain(|row| {
-            let whole = row.loose == 0;
-            if whole {
-                write_whole_row(row, unit, shown);
+impl<const UNIT: u64> Open<UNIT> {
+    fn take(&mut self, row: usize, parts: [u64; COLUMNS]) {
+        let is_free = |place: &usize| self.loose & FIRST_ROW << (COLUMNS * place) == 0;
+        let place = (0..PLACES).find(is_free).expect("at most three rows stay open");
+        self.row_at[place] = row;
+        for (column, part) in parts.into_iter().enumerate() {
+            let cell = COLUMNS * place + column;
+            self.parts[cell] = part;
+            self.loose |= ((part != 0) as Cells) << cell;
+        }
+    }
+
+    /// Shifts rounds until none is left, and writes rows that have become whole.
+    fn settle(&mut self, shown: &mut [[u64; COLUMNS]]) {
+        loop {
+            let cells = without_dead_ends(self.loose);
+            if cells == 0 {
+                return;
             }
-            !whole
-        });
+            let (walk, begin) = find_round(cells);
+            self.shift(&walk.cells[begin..walk.length], shown);
+        }
+    }
+
+    fn shift(&mut self, round: &[u8], shown: &mut [[u64; COLUMNS]]) {
+        let mut by = UNIT;
+        for (turn, &cell) in round.iter().enumerate() {
+            let part = self.parts[cell as usize % self.parts.len()];
+            by = by.min(if self.goes_up(turn, cell) { UNIT - part } else { part });
+        }
+        for (turn, &cell) in round.iter().enumerate() {
+            let up = self.goes_up(turn, cell);
+            let part = &mut self.parts[cell as usize % (PLACES * COLUMNS)];
+            *part = if up { *part + by } else { *part - by };
+            if *part == 0 || *part == UNIT {
+                self.loose &= !(1 << cell);
+                self.write_if_whole(cell as usize / COLUMNS, shown);
+            }
+        }
+    }
+
+    fn write_if_whole(&self, place: usize, shown: &mut [[u64; COLUMNS]]) {
+        if self.loose & FIRST_ROW << (COLUMNS * place) == 0 {
+            let parts = &self.parts[COLUMNS * place..][..COLUMNS];
+            for (cell, &part) in shown[self.row_at[place]].iter_mut().zip(parts) {
+                *cell += (part == UNIT) as u64;
+            }
+        }
+    }
+
+    /// Up and down alternate in the table with the turned signs.
+    fn goes_up(&self, turn: usize, cell: u8) -> bool {
+        let (place, column) = (cell as usize / COLUMNS % PLACES, cell as usize % COLUMNS);
+        let is_last = self.row_at[place] == self.last_row;
+        turn.is_multiple_of(2) ^ is_last ^ (column == GENERATED)
     }
 }
 
-fn write_whole_row(row: &OpenRow, unit: u64, shown: &mut [u64]) {
-    for (column, &part) in row.parts.iter().enumerate() {
-        shown[row.row * COLUMNS + column] += (part == unit) as u64;
-    }
-}
-
-/// A round of loose cells: neighbours share a row or a column by turns, and so
-/// do the last corner and the first.
-fn find_round(open: &[OpenRow]) -> Option<Round> {
-    let loose = without_dead_ends(open);
-    let mut row = loose.iter().position(|&columns| columns != 0)?;
-    let mut column = first(loose[row]);
-    let mut walk = Round::default();
-    let mut left_row = [None; COLUMNS];
-    let mut left_column = [None; COLUMNS];
-    // No dead ends, so the walk goes on until it meets a row or column again.
+/// A round among cells that have no dead ends, so that the walk goes on until
+/// it meets a row or column again: neighbours share a row or a column by turns,
+/// and so do the last cell and the first. The answer is the walk and where the
+/// round begins in it.
+fn find_round(cells: Cells) -> (Walk, usize) {
+    const NEVER: usize = usize::MAX;
+    let mut walk = Walk { cells: [0; 2 * COLUMNS + 2], length: 0 };
+    let mut left_row = [NEVER; PLACES];
+    let mut left_column = [NEVER; COLUMNS];
+    let mut cell = first(cells);
     loop {
-        left_row[row] = Some(walk.length);
-        walk.push((row, column));
-        if let Some(begin) = left_column[column] {
-            return Some(walk.from(begin));
+        let column = cell % COLUMNS;
+        left_row[cell / COLUMNS % PLACES] = walk.push(cell);
+        if left_column[column] != NEVER {
+            return (walk, left_column[column]);
         }
-        row = (0..open.len()).find(|&other| other != row && loose[other] & 1 << column != 0)?;
-        left_column[column] = Some(walk.length);
-        walk.push((row, column));
-        if let Some(begin) = left_row[row] {
-            return Some(walk.from(begin));
+        cell = first(cells & FIRST_COLUMN << column & !(1 << cell));
+        left_column[column] = walk.push(cell);
+        let row = cell / COLUMNS % PLACES;
+        if left_row[row] != NEVER {
+            return (walk, left_row[row]);
         }
-        column = first(loose[row] & !(1 << column));
+        cell = first(cells & FIRST_ROW << (COLUMNS * row) & !(1 << cell));
     }
 }
 
-fn first(columns: Columns) -> usize {
-    columns.trailing_zeros() as usize
+fn first(cells: Cells) -> usize {
+    cells.trailing_zeros() as usize
 }
 
-/// The loose cells that remain when cells alone in their row or column are
-/// taken away again and again; every round lies within them.
-fn without_dead_ends(open: &[OpenRow]) -> [Columns; COLUMNS] {
-    let mut loose = [0; COLUMNS];
-    for (place, row) in open.iter().enumerate() {
-        loose[place] = row.loose;
-    }
+/// The cells that remain when those alone in their row or column are taken
+/// away again and again; every round lies within them.
+fn without_dead_ends(mut cells: Cells) -> Cells {
     loop {
-        let before = loose;
-        let (mut in_one, mut in_more) = (0, 0);
-        for row in loose.iter_mut() {
-            if row.is_power_of_two() {
-                *row = 0;
-            }
-            in_more |= in_one & *row;
-            in_one |= *row;
+        let in_rows = FIRST_ROW * in_several([0, 1, 2, 3].map(|k| cells >> k & FIRST_COLUMN));
+        let in_columns = FIRST_COLUMN * in_several([0, 4, 8, 12].map(|k| cells >> k & FIRST_ROW));
+        let rest = cells & in_rows & in_columns;
+        if rest == cells {
+            return cells;
         }
-        loose.iter_mut().for_each(|row| *row &= in_more);
-        if loose == before {
-            return loose;
-        }
+        cells = rest;
     }
 }
 
-fn shift(open: &mut [OpenRow], round: &[Corner], unit: u64) {
-    let by = round
-        .iter()
-        .enumerate()
-        .map(|(turn, &(place, column))| {
-            let row = &open[place];
-            let part = row.parts[column];
-            if goes_up(turn, row.is_last, column) {
-                unit - part
-            } else {
-                part
-            }
-        })
-        .min()
-        .unwrap_or(0);
-    for (turn, &(place, column)) in round.iter().enumerate() {
-        let row = &mut open[place];
-        if goes_up(turn, row.is_last, column) {
-            row.parts[column] += by;
-        } else {
-            row.parts[column] -= by;
-        }
-        if row.parts[column] == 0 || row.parts[column] == unit {
-            row.loose &= !(1 << column);
-        }
+/// What is in two of the sets or more.
+fn in_several(sets: [Cells; 4]) -> Cells {
+    let (mut in_one, mut in_more) = (0, 0);
+    for set in sets {
+        in_more |= in_one & set;
+        in_one |= set;
     }
-}
-
-/// Up and down alternate in the table with the turned signs.
-fn goes_up(turn: usize, is_last: bool, column: usize) -> bool {
-    turn.is_multiple_of(2) ^ is_last ^ (column == GENERATED)
+    in_more
 }

@@ -1,30 +1,71 @@
--- The invariant: all rows so far are right, exactly where `ok` says so.
-use Prim.Native.Nat.{_≤_, _-_}
-use mathlib.Core.Path.{_≡_}
-use borrow.Author.Needs.{needs}
+-- The invariant: all rows so far are right, and `last` is the key of the row before; the first row that is not ends it.
+use Prim.Native.Nat.{_≤_, _<_, _+_, _-_}
+use mathlib.Core.Path.{_≡_, sym, _∙_}
+use mathlib.Core.Bool.{true, _&&_, _||_}
+use native.Mathlib.Omega.{arith}
+use lib.Dec.{eqb}
 use Rattle.search.specs.Test.{all}
 use Rattle.search.proofs.LawTest.{all-start, all-step, all-done}
-use Rattle.desk.specs.Book.{rowOk, techniqueBlock}
+use Rattle.desk.specs.Book.{keyAt, rowStart, rowOk, techniqueBlock}
+use Rattle.desk.specs.Inner.{Packs}
+use Rattle.desk.proofs.LawBook.{all-stopped, row-in}
+use Rattle.desk.proofs.LawOrder.{row-by-kept}
+use borrow.Author.Needs.{needs}
 use Rattle.desk.proofs.book.rows_ok.Statement.{statement}
 use Rattle.desk.proofs.book.rows_ok.Tie as tie
 
 abbrev Inv-loop : tie.InvT-loop
-Inv-loop b runs rows ok₀ i₀ ok i = (i ≤ rows) × (ok ≡ all i (rowOk b (techniqueBlock b)))
+Inv-loop b runs rows size last₀ at₀ i₀ last at i =
+    (i ≤ rows)
+    × (true ≡ all i (rowOk b (techniqueBlock b)))
+    × (at ≡ rowStart b i)
+    × (0 < i → Packs (keyAt b (rowStart b (i - 1))) last)
 
 abbrev μ-loop : tie.MeasureT-loop
-μ-loop b runs rows ok₀ i₀ ok i = rows - i
+μ-loop b runs rows size last₀ at₀ i₀ last at i = rows - i
 
 loop-holds : tie.Need-loop-holds Inv-loop μ-loop
-loop-holds c = (search needs, all-start _)
+loop-holds c = (search needs, all-start _, omega (arith, c .row-offset .ensures .eq), λ l. absurd (omega arith))
+
+packed-at-requires : tie.Need-packed-at-requires Inv-loop μ-loop
+packed-at-requires c κs = omega (arith, c .before .loop .inv .2, row-in _ (c .before .before .before .before .before .before .before .pre .0) (c .before .loop .i) (omega (arith, c .before .before .before .before .row-count .ensures .eq)))
+
+row-fits-requires : tie.Need-row-fits-requires Inv-loop μ-loop
+row-fits-requires c κs =
+    let z = c .before .before .before .before .before .before .before .before .before in
+    let l = c .before .before .before .loop in
+    let size = c .before .before .before .before .before .technique-count .ensures .eq in
+    let inside = row-in _ (z .pre .0) (l .i) (omega (arith, c .before .before .before .before .before .before .row-count .ensures .eq)) in
+    (omega (arith, l .inv .2, inside), size, rw size (z .pre .1))
 
 loop-again : tie.Need-loop-again Inv-loop μ-loop
-loop-again c = (search needs, all-step _ _ (c .before .before .loop .inv .1) (c .row-ok .ensures))
+loop-again c =
+    let l = c .before .before .before .before .before .loop in
+    let b = c .before .before .before .before .before .before .before .before .before .before .before .args .b .now in
+    let key = rw (l .inv .2) at (c .before .before .before .packed-at .ensures) in
+    let fits = rw (l .inv .2) at (c .before .row-fits .ensures) in
+    let back : l .i + 1 - 1 ≡ l .i = omega arith in
+    let kept = row-by-kept b (techniqueBlock b) (l .i) (l .last) _ (l .inv .3) key in
+    let here : (c .before .row-fits .result && (eqb (l .i) 0 || c .before .before .packed-less .result)) ≡ rowOk b (techniqueBlock b) (l .i) = rw (fits, c .before .before .packed-less .ensures) kept in
+    (search needs, all-step _ _ (l .inv .1) (sym (c .if1 .taken) ∙ here), omega (arith, l .inv .2), λ m. rw back key)
 
 returns : tie.Need-returns Inv-loop μ-loop
-returns c = rw (all-done _ (c .before .loop .inv) (c .loop-test .left)) (cc)
+returns c =
+    let l = c .before .before .before .before .before .loop in
+    let b = c .before .before .before .before .before .before .before .before .before .before .before .args .b .now in
+    let key = rw (l .inv .2) at (c .before .before .before .packed-at .ensures) in
+    let fits = rw (l .inv .2) at (c .before .row-fits .ensures) in
+    let kept = row-by-kept b (techniqueBlock b) (l .i) (l .last) _ (l .inv .3) key in
+    let here : (c .before .row-fits .result && (eqb (l .i) 0 || c .before .before .packed-less .result)) ≡ rowOk b (techniqueBlock b) (l .i) = rw (fits, c .before .before .packed-less .ensures) kept in
+    sym (all-stopped _ _ (l .i) (omega (arith, c .before .before .before .before .before .before .before .before .row-count .ensures .eq)) (sym here ∙ c .if1 .left))
+
+returns-2 : tie.Need-returns-2 Inv-loop μ-loop
+returns-2 c =
+    let l = c .before .loop in
+    rw (all-done _ (l .inv .0, l .inv .1) (c .loop-test .left)) (cc)
 
 pub rows-ok-spec : {M : Type 1} → statement M
 rows-ok-spec =
     tie.close
-    (tie.spec Inv-loop μ-loop (λ c κs. search needs) loop-holds (λ c κs. search needs) (λ c. search needs) (λ c. search needs)
-    loop-again returns)
+    (tie.spec Inv-loop μ-loop (λ c κs. search needs) (λ c κs. search needs) (λ c κs. search needs) loop-holds packed-at-requires
+    (λ c κs. search needs) row-fits-requires (λ c. search needs) (λ c. search needs) (λ c. search needs) loop-again returns returns-2)

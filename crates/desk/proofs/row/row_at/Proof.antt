@@ -7,7 +7,7 @@ use Rattle.desk.proofs.row.row_at.Tie as tie
 coefficient-at-requires : tie.Need-coefficient-at-requires
 coefficient-at-requires c κs =
     let entry = c .before .before in
-    (search needs, rw (c .row-start .ensures .eq) (entry .pre .1))
+    (search needs, rw (c .row-start .ensures .eq) (entry .pre .2))
 
 returns : tie.Need-returns
 unfolding rowAt

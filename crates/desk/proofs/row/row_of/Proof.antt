@@ -3,7 +3,7 @@ use mathlib.Core.Path.{sym, _∙_}
 use borrow.Author.Needs.{needs}
 use Rattle.desk.specs.Row.{rowOf}
 use Rattle.desk.proofs.LawRow.{row-below}
-use Rattle.desk.proofs.LawBook.{row-fields}
+use Rattle.desk.proofs.LawBook.{good-row-in, row-fields}
 use Rattle.desk.proofs.row.row_of.Statement.{statement}
 use Rattle.desk.proofs.row.row_of.Tie as tie
 
@@ -11,7 +11,8 @@ row-at-requires : tie.Need-row-at-requires
 row-at-requires c κs =
     let entry = c .before .before .before .before .before in
     let row-index = c .before .before .before .row-index in
-    (rw (c .before .i .given .1) at (row-index .ensures .below), row-fields _ (entry .pre) _ (row-below _ _ _ (sym (row-index .ensures .eq) ∙ c .before .i .given .1)))
+    let below = row-below _ _ _ (sym (row-index .ensures .eq) ∙ c .before .i .given .1) in
+    (rw (c .before .i .given .1) at (row-index .ensures .below), good-row-in _ (entry .pre) _ below, row-fields _ (entry .pre) _ below)
 
 returns : tie.Need-returns
 unfolding rowOf

@@ -1,10 +1,12 @@
 -- The invariant: all lines so far are right, exactly where `ok` says so.
 use Prim.Native.Nat.{_≤_, _-_}
 use mathlib.Core.Path.{_≡_}
+use native.Mathlib.Omega.{arith}
 use borrow.Author.Needs.{needs}
 use Rattle.search.proofs.LawTest.{all-start, all-step, all-done}
 use Rattle.search.specs.Test.{all}
 use Rattle.desk.specs.Sheet.{lineOk}
+use Rattle.desk.proofs.LawBook.{line-in}
 use Rattle.desk.proofs.sheet.lines_ok.Statement.{statement}
 use Rattle.desk.proofs.sheet.lines_ok.Tie as tie
 
@@ -17,6 +19,11 @@ abbrev μ-loop : tie.MeasureT-loop
 loop-holds : tie.Need-loop-holds Inv-loop μ-loop
 loop-holds c = (search needs, all-start _)
 
+line-ok-requires : tie.Need-line-ok-requires Inv-loop μ-loop
+line-ok-requires c κs =
+    let n = c .before .before .line-count .ensures .eq in
+    (search needs, line-in _ (c .before .before .before .before .pre) (c .before .loop .i) (omega arith))
+
 loop-again : tie.Need-loop-again Inv-loop μ-loop
 loop-again c =
     let loop = c .before .before .loop in
@@ -28,5 +35,5 @@ returns c = rw (all-done _ (c .before .loop .inv) (c .loop-test .left)) (cc)
 pub lines-ok-spec : {M : Type 1} → statement M
 lines-ok-spec =
     tie.close
-    (tie.spec Inv-loop μ-loop (λ c κs. search needs) loop-holds (λ c κs. search needs) (λ c. search needs) (λ c. search needs)
+    (tie.spec Inv-loop μ-loop (λ c κs. search needs) loop-holds line-ok-requires (λ c. search needs) (λ c. search needs)
     loop-again returns)

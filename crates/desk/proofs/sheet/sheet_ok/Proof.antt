@@ -1,8 +1,12 @@
 -- Lines are looked at only where the header is right, as in the definition.
+use mathlib.Core.Path.{sym, _∙_}
 use borrow.Author.Needs.{needs}
 use Rattle.desk.specs.Sheet.{sheetOk}
 use Rattle.desk.proofs.sheet.sheet_ok.Statement.{statement}
 use Rattle.desk.proofs.sheet.sheet_ok.Tie as tie
+
+lines-ok-requires : tie.Need-lines-ok-requires
+lines-ok-requires c κs = sym (c .before .sheet-header-ok .ensures) ∙ c .if1 .taken
 
 returns : tie.Need-returns
 unfolding sheetOk
@@ -15,4 +19,4 @@ unfolding sheetOk
 returns-2 c = rw (← c .before .sheet-header-ok .ensures, c .if1 .left)
 
 pub sheet-ok-spec : {M : Type 1} → statement M
-sheet-ok-spec = tie.close (tie.spec (λ c κs. search needs) (λ c κs. search needs) returns returns-2)
+sheet-ok-spec = tie.close (tie.spec (λ c κs. search needs) lines-ok-requires returns returns-2)

@@ -1,0 +1,32 @@
+-- A list of techniques is right exactly where it is no longer than the run from its first one on.
+use mathlib.Core.Path.{sym, _∙_}
+use native.Mathlib.Omega.{arith}
+use Rattle.search.specs.Test.{every}
+use Rattle.desk.specs.Inner.{rowFits}
+use Rattle.desk.proofs.LawRun.{listed}
+use borrow.Author.Needs.{needs}
+use Rattle.desk.proofs.book.row_fits.Statement.{statement}
+use Rattle.desk.proofs.book.row_fits.Tie as tie
+
+coefficient-at-requires : tie.Need-coefficient-at-requires
+coefficient-at-requires c κs = (search needs, sym (c .before .before .before .fields-ok .ensures) ∙ c .before .before .if1 .taken)
+
+list-ok-requires : tie.Need-list-ok-requires
+list-ok-requires c κs = (c .before .before .before .before .before .before .before .pre .2 .long, search needs, search needs)
+
+returns : tie.Need-returns
+unfolding every rowFits
+returns c =
+    let pre = c .before .before .before .before .before .before .before .before .pre in
+    let runs = rw (pre .1) at (pre .2) in
+    rw (← c .before .before .before .before .before .fields-ok .ensures, c .before .before .before .before .if1 .taken) (cc (listed _ _ _ _ _ _ _ (pre .1) runs (c .list-ok .ensures)))
+
+returns-2 : tie.Need-returns-2
+unfolding every rowFits
+returns-2 c = rw (← c .before .fields-ok .ensures, c .if1 .left)
+
+pub row-fits-spec : {M : Type 1} → statement M
+row-fits-spec =
+    tie.close
+    (tie.spec (λ c κs. search needs) (λ c. search needs) (λ c κs. search needs) (λ c. search needs) (λ c κs. search needs)
+    coefficient-at-requires list-ok-requires returns returns-2)

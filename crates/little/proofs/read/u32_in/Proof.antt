@@ -1,0 +1,15 @@
+-- The definition is opened: two numbers of two bytes, each where it stands; what is left is linear. Assumes nothing.
+use native.Mathlib.Omega.{arith}
+use borrow.Author.Needs.{needs}
+use Rattle.little.specs.Read.{u32At}
+use Rattle.little.proofs.read.u32_in.Statement.{statement}
+use Rattle.little.proofs.read.u32_in.Tie as tie
+
+returns : tie.Need-returns
+unfolding u32At
+returns c = record { eq = omega arith; small = omega arith }
+
+pub u32-in-spec : {M : Type 1} → statement M
+u32-in-spec =
+    tie.close
+    (tie.spec (λ c κs. search needs) (λ c. search needs) (λ c κs. search needs) (λ c. search needs) (λ c. search needs) returns)

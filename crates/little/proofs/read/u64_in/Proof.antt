@@ -1,0 +1,15 @@
+-- The definition is opened: two halves below 2^32, so that neither sum nor cast loses anything. Assumes nothing.
+use native.Mathlib.Omega.{arith}
+use borrow.Author.Needs.{needs}
+use Rattle.little.specs.Read.{u64At}
+use Rattle.little.proofs.read.u64_in.Statement.{statement}
+use Rattle.little.proofs.read.u64_in.Tie as tie
+
+returns : tie.Need-returns
+unfolding u64At
+returns c = omega arith
+
+pub u64-in-spec : {M : Type 1} → statement M
+u64-in-spec =
+    tie.close
+    (tie.spec (λ c κs. search needs) (λ c. search needs) (λ c κs. search needs) (λ c. search needs) (λ c. search needs) returns)

@@ -9,6 +9,9 @@ ghost use Rattle.desk.specs.Book.{rowStart, keyAt, fieldsOk, coefficient
 ghost use Rattle.desk.specs.Inner.{counted, farthest, RowIn, Packs, rowFits};
 ghost use Rattle.desk.specs.InnerRun.{Runs};
 use super::house::file_ok;
+use super::inside::byte_in;
+use super::inside::u16_in;
+use super::inside::u32_in;
 use super::key::CODE_RANGE;
 use super::key::Key;
 use super::key::Packed;
@@ -17,11 +20,8 @@ use super::key::packed_less;
 use super::run::fill_runs;
 use super::run::list_ok;
 use little::part::part;
-use little::read::byte_in;
 use little::read::u16_at;
-use little::read::u16_in;
 use little::read::u32_at;
-use little::read::u32_in;
 
 pub const HEADER_SIZE: usize = 16;
 

@@ -4,8 +4,8 @@ ghost use Prim.Native.Nat.{_<_, _≤_, _+_};
 ghost use lib.ListN.{length};
 ghost use Rattle.desk.specs.Inner.{farthest, Packs, SmallKey, keySmall, packedLess};
 ghost use Rattle.desk.specs.Key.{keyFrom, keySame, allScales};
+use super::inside::u16_in;
 use little::read::u16_at;
-use little::read::u16_in;
 
 pub struct Key {
     pub industry: usize,

@@ -5,6 +5,7 @@ pub mod book;
 pub mod cells;
 pub mod declare;
 pub mod house;
+mod inside;
 pub mod key;
 pub mod line;
 pub mod reading;

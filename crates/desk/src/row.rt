@@ -11,6 +11,8 @@ use super::book::key_at;
 use super::book::packed_at;
 use super::book::row_count;
 use super::book::row_start;
+use super::inside::byte_in;
+use super::inside::u16_in;
 use super::key::Key;
 use super::key::Packed;
 use super::key::all_scales;
@@ -18,8 +20,6 @@ use super::key::key_same;
 use super::key::key_small;
 use super::key::pack;
 use super::key::packed_less;
-use little::read::byte_in;
-use little::read::u16_in;
 use search::found::Found;
 
 // What a line is accounted for by: units per kilogram, and the list of techniques in the block.

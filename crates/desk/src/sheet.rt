@@ -6,11 +6,11 @@ ghost use Rattle.little.specs.Read.{Reads};
 ghost use Rattle.desk.specs.Inner.{counted, farthest, LineIn};
 ghost use Rattle.desk.specs.Sheet.{sheetHeaderOk, lineStart, lineOk, linesOk, lineCount, sheetOk};
 use super::house::file_ok;
+use super::inside::byte_in;
+use super::inside::u64_in;
 use little::read::byte_at;
-use little::read::byte_in;
 use little::read::u16_at;
 use little::read::u32_at;
-use little::read::u64_in;
 
 pub const HEADER_SIZE: usize = 16;
 

@@ -8,8 +8,8 @@ ghost use Rattle.desk.specs.Book.{techniqueSize, techniqueCode, techniqu
 ghost use Rattle.desk.specs.Inner.{counted};
 ghost use Rattle.desk.specs.Technique.{techniqueIndex};
 use super::book::TECHNIQUE_SIZE;
+use super::inside::u16_in;
 use little::read::u16_at;
-use little::read::u16_in;
 use search::found::Found;
 
 // The place, in a row's list of `count` techniques that begins at `from`, of the one with this code.

@@ -1,7 +1,6 @@
-// Little-endian numbers. `.._at` asks nothing of a caller: a byte past the end counts as 0. `.._in` is for a caller that knows that the
-// bytes are there, and tests nothing.
+// Little-endian numbers. A byte past the end counts as 0, so that nothing is asked of a caller.
 ghost use mathlib.Core.Path.{_≡_};
-ghost use Prim.Native.Nat.{_<_, _≤_, _+_};
+ghost use Prim.Native.Nat.{_<_};
 ghost use lib.ListN.{length};
 ghost use Rattle.little.specs.Read.{byteRange, u16Range, u32Range, byteAt, u16At, u32At, u64At, Reads};
 
@@ -12,45 +11,18 @@ const U16_RANGE: usize = 65536;
 
 const U32_RANGE: usize = 4294967296;
 
-// The byte at `at`, which is there.
-pub fn byte_in(s: &[u8], at: usize) -> usize
+fn byte(s: &[u8], at: usize) -> usize
     requires { ⌜ at < length (now s) ⌝ }
     ensures { λ r. ⌜ Reads r (byteAt (now (s .entry)) at) byteRange ⌝ }
 {
     s[at] as usize
 }
 
-// The two bytes from `at` on, which are there, the low one first.
-pub fn u16_in(s: &[u8], at: usize) -> usize
-    requires { ⌜ at + 2 ≤ length (now s) ⌝ }
-    ensures { λ r. ⌜ Reads r (u16At (now (s .entry)) at) u16Range ⌝ }
-{
-    byte_in(s, at) + BYTE_RANGE * byte_in(s, at + 1)
-}
-
-// The four bytes from `at` on, which are there, the low ones first.
-pub fn u32_in(s: &[u8], at: usize) -> usize
-    requires { ⌜ at + 4 ≤ length (now s) ⌝ }
-    ensures { λ r. ⌜ Reads r (u32At (now (s .entry)) at) u32Range ⌝ }
-{
-    let low = u16_in(s, at);
-    let high = u16_in(s, at + 2);
-    low + U16_RANGE * high
-}
-
-// The eight bytes from `at` on, which are there, the low ones first.
-pub fn u64_in(s: &[u8], at: usize) -> u64
-    requires { ⌜ at + 8 ≤ length (now s) ⌝ }
-    ensures { λ r. ⌜ r ≡ u64At (now (s .entry)) at ⌝ }
-{
-    (u32_in(s, at) + U32_RANGE * u32_in(s, at + 4)) as u64
-}
-
 // The byte at `at`; 0 where the slice ends at or before it.
 pub fn byte_at(s: &[u8], at: usize) -> usize
     ensures { λ r. ⌜ Reads r (byteAt (now (s .entry)) at) byteRange ⌝ }
 {
-    if at < s.len() { byte_in(s, at) } else { 0 }
+    if at < s.len() { byte(s, at) } else { 0 }
 }
 
 // The two bytes from `at` on, the low one first; of those past the end each counts as 0.
@@ -60,9 +32,9 @@ pub fn u16_at(s: &[u8], at: usize) -> usize
 {
     if at < s.len() {
         if 2 <= s.len() - at {
-            u16_in(s, at)
+            byte(s, at) + BYTE_RANGE * byte(s, at + 1)
         } else {
-            byte_in(s, at)
+            byte(s, at)
         }
     } else {
         0
@@ -75,7 +47,9 @@ pub fn u32_at(s: &[u8], at: usize) -> usize
 {
     if at < s.len() {
         if 4 <= s.len() - at {
-            u32_in(s, at)
+            let low = byte(s, at) + BYTE_RANGE * byte(s, at + 1);
+            let high = byte(s, at + 2) + BYTE_RANGE * byte(s, at + 3);
+            low + U16_RANGE * high
         } else {
             u16_at(s, at) + U16_RANGE * u16_at(s, at + 2)
         }
@@ -89,11 +63,7 @@ pub fn u64_at(s: &[u8], at: usize) -> u64
     ensures { λ r. ⌜ r ≡ u64At (now (s .entry)) at ⌝ }
 {
     if at < s.len() {
-        if 8 <= s.len() - at {
-            u64_in(s, at)
-        } else {
-            (u32_at(s, at) + U32_RANGE * u32_at(s, at + 4)) as u64
-        }
+        (u32_at(s, at) + U32_RANGE * u32_at(s, at + 4)) as u64
     } else {
         0
     }

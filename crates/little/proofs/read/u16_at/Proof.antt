@@ -1,4 +1,4 @@
--- Where both bytes are there they are read together; else the definition is opened and the one that is not there is 0. Assumes nothing.
+-- The definition is opened and each byte that is not there is 0; what is left is linear. Assumes nothing.
 use Prim.Native.Nat.{_+_}
 use mathlib.Core.Path.{sym}
 use native.Mathlib.Omega.{arith}
@@ -8,6 +8,10 @@ use Rattle.little.proofs.LawRead.{byte-past, u16-past}
 use borrow.Author.Needs.{needs}
 use Rattle.little.proofs.read.u16_at.Statement.{statement}
 use Rattle.little.proofs.read.u16_at.Tie as tie
+
+returns : tie.Need-returns
+unfolding u16At
+returns c = record { eq = omega arith; small = omega arith }
 
 returns-2 : tie.Need-returns-2
 unfolding u16At
@@ -21,4 +25,5 @@ returns-3 c = record { eq = sym (u16-past (now (c .before .before .args .s)) _ (
 pub u16-at-spec : {M : Type 1} → statement M
 u16-at-spec =
     tie.close
-    (tie.spec (λ c. search needs) (λ c κs. search needs) (λ c κs. search needs) (λ c. search needs) returns-2 returns-3)
+    (tie.spec (λ c. search needs) (λ c κs. search needs) (λ c. search needs) (λ c κs. search needs) (λ c. search needs)
+    (λ c. search needs) (λ c κs. search needs) returns returns-2 returns-3)

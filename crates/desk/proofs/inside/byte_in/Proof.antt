@@ -1,8 +1,8 @@
--- What a slice of bytes holds at an index is below 256, so the cast keeps it. Assumes nothing.
+-- What a slice of bytes holds at an index is below 256, so the cast keeps it.
 use native.Mathlib.Omega.{arith}
 use borrow.Author.Needs.{needs}
-use Rattle.little.proofs.read.byte_in.Statement.{statement}
-use Rattle.little.proofs.read.byte_in.Tie as tie
+use Rattle.desk.proofs.inside.byte_in.Statement.{statement}
+use Rattle.desk.proofs.inside.byte_in.Tie as tie
 
 cast-result : tie.Need-cast-result
 cast-result c = omega (arith, c .shared-slice-known .given (c .before .args .at))

@@ -1,9 +1,9 @@
--- The definition is opened: two halves below 2^32, so that neither sum nor cast loses anything. Assumes nothing.
+-- The definition is opened: two halves below 2^32, so that neither sum nor cast loses anything.
 use native.Mathlib.Omega.{arith}
 use borrow.Author.Needs.{needs}
 use Rattle.little.specs.Read.{u64At}
-use Rattle.little.proofs.read.u64_in.Statement.{statement}
-use Rattle.little.proofs.read.u64_in.Tie as tie
+use Rattle.desk.proofs.inside.u64_in.Statement.{statement}
+use Rattle.desk.proofs.inside.u64_in.Tie as tie
 
 returns : tie.Need-returns
 unfolding u64At

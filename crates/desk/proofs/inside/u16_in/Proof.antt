@@ -1,9 +1,9 @@
--- The definition is opened: two bytes, each where it stands; what is left is linear. Assumes nothing.
+-- The definition is opened: two bytes, each where it stands; what is left is linear.
 use native.Mathlib.Omega.{arith}
 use borrow.Author.Needs.{needs}
 use Rattle.little.specs.Read.{u16At}
-use Rattle.little.proofs.read.u16_in.Statement.{statement}
-use Rattle.little.proofs.read.u16_in.Tie as tie
+use Rattle.desk.proofs.inside.u16_in.Statement.{statement}
+use Rattle.desk.proofs.inside.u16_in.Tie as tie
 
 returns : tie.Need-returns
 unfolding u16At

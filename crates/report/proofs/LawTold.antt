@@ -1,6 +1,6 @@
 -- What is told is the report: a refusal by its number and line, and figures by the two tables, which are the first cells of the results.
 use Prim.Native.Nat.{ℕ, _≤_, _<_}
-use mathlib.Core.Path.{_≡_, refl, ap, _∙_}
+use mathlib.Core.Path.{_≡_, refl, sym, ap, _∙_}
 use mathlib.Core.List.{List}
 use native.Mathlib.Omega.{arith}
 use lib.ListN.{length, take, drop, replicate}
@@ -39,30 +39,35 @@ module _ (f : Lent) where
   unfolding answerOf
   accepted-ready h = ready f mostCells (files-accepted (byFiles f mostCells) (byLines (lineCount (f .sheet)) (lineOutcome f)) h)
 
-  pub accepted-few : answerOf f mostCells ≡ Accepted → lineCount (f .sheet) ≤ mostLines
-  accepted-few h = lines-few (f .sheet) (accepted-ready h .sheet)
+  -- where the desk's answer is o
+  module _ {o : Outcome} (answer : o ≡ answerOf f mostCells) where
+    pub accepted-few : o ≡ Accepted → lineCount (f .sheet) ≤ mostLines
+    accepted-few e = lines-few (f .sheet) (accepted-ready (sym answer ∙ e) .sheet)
+
+    module _ {r : ℕ} {text text' : List ℕ} where
+      pub refusal-told : (fault : Fault) (line : ℕ) → o ≡ Refused fault line
+          → Puts (refusalText (ruleNumber fault) line) mostRefusal 0 text r text' → Puts (reportOf f) mostText 0 text r text'
+      unfolding reportOf reportFor
+      refusal-told fault line e p = rw (← answer, e) (more p (omega arith))
+
+      -- the first cells of both results are the tables
+      pub figures-told : (exact shown exact' shown' : List ℕ) (n W : ℕ) → o ≡ Accepted → Declared f exact shown o exact' shown'
+          → n ≡ lineCount (f .sheet) → W ≡ unitOfSheet (f .sheet)
+          → Puts (figuresText n W (take (tableSize n) exact') (take (tableSize n) shown')) mostText 0 text r text'
+          → Puts (reportOf f) mostText 0 text r text'
+      unfolding reportOf reportFor shownAfter
+      figures-told exact shown exact' shown' n W e d lines unit p =
+          let n₀ = lineCount (f .sheet) in
+          let good = accepted-ready (sym answer ∙ e) in
+          let desk : Declared f exact shown Accepted exact' shown' = rw e at d in
+          let size = shown-length _ _ _ _ (settles f (good .book) (good .sheet)) in
+          let first : take (tableSize n₀) exact' ≡ exactOf f = first-cells n₀ (lineOutcome f) exact exact' (desk .tables .table) in
+          let past = drop (tableSize n₀) shown in
+          let second : take (tableSize n₀) shown' ≡ shownOf f =
+          ap (take (tableSize n₀)) (desk .tables .shows) ∙ take-at (shownOf f) past (tableSize n₀) (omega (arith, size)) in
+          rw (← answer, e) (rw (lines, unit, first, second) at p)
 
   module _ {r : ℕ} {text text' : List ℕ} where
-    pub refusal-told : (fault : Fault) (line : ℕ) → answerOf f mostCells ≡ Refused fault line
-        → Puts (refusalText (ruleNumber fault) line) mostRefusal 0 text r text' → Puts (reportOf f) mostText 0 text r text'
-    unfolding reportOf reportFor
-    refusal-told fault line e p = rw e (more p (omega arith))
-
-    -- the first cells of both results are the tables
-    pub figures-told : (exact shown exact' shown' : List ℕ) (n W : ℕ) → answerOf f mostCells ≡ Accepted
-        → Declared f exact shown Accepted exact' shown' → n ≡ lineCount (f .sheet) → W ≡ unitOfSheet (f .sheet)
-        → Puts (figuresText n W (take (tableSize n) exact') (take (tableSize n) shown')) mostText 0 text r text'
-        → Puts (reportOf f) mostText 0 text r text'
-    unfolding reportOf reportFor shownAfter
-    figures-told exact shown exact' shown' n W e d lines unit p =
-        let n₀ = lineCount (f .sheet) in
-        let good = accepted-ready e in
-        let size = shown-length _ _ _ _ (settles f (good .book) (good .sheet)) in
-        let first : take (tableSize n₀) exact' ≡ exactOf f = first-cells n₀ (lineOutcome f) exact exact' (d .tables .table) in
-        let second : take (tableSize n₀) shown' ≡ shownOf f =
-        ap (take (tableSize n₀)) (d .tables .shows) ∙ take-at (shownOf f) (drop (tableSize n₀) shown) (tableSize n₀) (omega (arith, size)) in
-        rw e (rw (lines, unit, first, second) at p)
-
     -- ---- the whole promise
 
     -- the text keeps its size

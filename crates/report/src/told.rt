@@ -1,6 +1,7 @@
 // What the desk answers, told: the figures, or the refusal.
 ghost use mathlib.Core.Path.{_≡_};
 ghost use Prim.Native.Nat.{_≤_};
+ghost use lib.ListN.{take};
 ghost use Rattle.desk.specs.Lent.{lent};
 ghost use Rattle.desk.specs.Sheet.{mostLines};
 ghost use Rattle.report.specs.Report.{figuresText, refusalText, reportOf, mostText};
@@ -37,6 +38,17 @@ fn figures(text: &mut [u8], lines: usize, unit: u64, exact: &[u64], shown: &[u64
     table(text, at, b"shown", shown, lines)
 }
 
+// So many cells, or as many of them as there are.
+fn first_cells(cells: &[u64], count: usize) -> &[u64]
+    ensures { λ r. ⌜ now r ≡ take count (now (cells .entry)) ⌝ }
+{
+    if count <= cells.len() {
+        &cells[..count]
+    } else {
+        cells
+    }
+}
+
 // The desk is lent results with room for every sheet.
 pub(crate) fn told(book: &[u8], sheet: &[u8], text: &mut [u8]) -> usize
     ensures { λ r. ⌜ Puts (reportOf (lent (now (book .entry)) (now (sheet .entry)))) mostText
@@ -53,8 +65,8 @@ pub(crate) fn told(book: &[u8], sheet: &[u8], text: &mut [u8]) -> usize
                 text,
                 lines,
                 unit_of(sheet),
-                &exact[..cells],
-                &shown[..cells],
+                first_cells(&exact, cells),
+                first_cells(&shown, cells),
             )
         }
     }

@@ -1,12 +1,11 @@
 -- The invariant: i zeros are laid. At the end they are as many as the text has bytes. Assumes nothing.
 use Prim.Native.Nat.{_≤_, _-_}
-use mathlib.Core.Path.{_≡_, ap, _∙_}
+use mathlib.Core.Path.{_≡_, _∙_}
 use native.Mathlib.Omega.{arith}
 use lib.ListN.{length, replicate}
 use borrow.Author.Needs.{needs}
-use denote.Ref.{now}
 use Rattle.numerals.specs.Laid.{laid}
-use Rattle.numerals.proofs.LawLaid.{length-laid, laid-none, zeros-step, zeros-done}
+use Rattle.numerals.proofs.LawLaid.{laid-none, zeros-step, zeros-done}
 use Rattle.numerals.proofs.bytes.clear.Statement.{statement}
 use Rattle.numerals.proofs.bytes.clear.Tie as tie
 

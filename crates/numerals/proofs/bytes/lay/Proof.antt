@@ -1,11 +1,8 @@
 -- The invariant: the first i bytes are laid. A turn lays one more, and at the end these are all. Assumes nothing.
 use Prim.Native.Nat.{_≤_, _-_}
-use mathlib.Core.Path.{_≡_, refl, _∙_, ap}
-use native.Mathlib.Omega.{arith}
+use mathlib.Core.Path.{_≡_, _∙_, ap}
 use lib.ListN.{length, take}
-use lib.Seq.{take-all}
 use borrow.Author.Needs.{needs}
-use denote.Ref.{now}
 use Rattle.numerals.specs.Laid.{laid}
 use Rattle.numerals.proofs.LawLaid.{length-laid, laid-none, laid-step, laid-done}
 use Rattle.numerals.proofs.bytes.lay.Statement.{statement}

@@ -1,10 +1,10 @@
 -- A cell that is not there counts as 0.
 use Prim.Native.Nat.{_+_, _*_}
 use mathlib.Core.Path.{sym}
+use borrow.Author.Needs.{needs}
 use denote.Ref.{now}
 use Rattle.desk.specs.Cells.{width}
 use Rattle.little.proofs.LawRead.{byte-past}
-use borrow.Author.Needs.{needs}
 use Rattle.report.proofs.rows.cell.Statement.{statement}
 use Rattle.report.proofs.rows.cell.Tie as tie
 

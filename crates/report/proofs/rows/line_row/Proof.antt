@@ -1,8 +1,8 @@
 -- The name, the number and the amounts, each where the one before it ends.
-use Rattle.report.proofs.LawPut.{then, more}
-use Rattle.report.specs.Report.{rowText}
 use native.Mathlib.Omega.{arith}
 use borrow.Author.Needs.{needs}
+use Rattle.report.specs.Report.{rowText}
+use Rattle.report.proofs.LawPut.{then, more}
 use Rattle.report.proofs.rows.line_row.Statement.{statement}
 use Rattle.report.proofs.rows.line_row.Tie as tie
 

@@ -1,13 +1,13 @@
 -- The invariant: the rows of the first i lines are put. A turn puts one more.
 use Prim.Native.Nat.{_≤_, _-_, _*_}
-use mathlib.Core.Path.{_≡_, ap, _∙_}
+use mathlib.Core.Path.{ap, _∙_}
 use native.Mathlib.Omega.{arith}
 use lib.ListN.{length}
+use borrow.Author.Needs.{needs}
 use Rattle.numerals.proofs.LawLaid.{length-laid}
 use Rattle.report.specs.Report.{mostRow, linesText}
 use Rattle.report.specs.Inner.{Puts}
 use Rattle.report.proofs.LawPut.{lines-start, lines-step, lines-done}
-use borrow.Author.Needs.{needs}
 use Rattle.report.proofs.rows.line_rows.Statement.{statement}
 use Rattle.report.proofs.rows.line_rows.Tie as tie
 

@@ -1,8 +1,8 @@
 -- The rows of the lines, and the row of sums where they end.
 use native.Mathlib.Omega.{arith}
-use Rattle.report.proofs.LawPut.{then, more}
-use Rattle.report.specs.Report.{rowText, tableText}
 use borrow.Author.Needs.{needs}
+use Rattle.report.specs.Report.{rowText, tableText}
+use Rattle.report.proofs.LawPut.{then, more}
 use Rattle.report.proofs.rows.table.Statement.{statement}
 use Rattle.report.proofs.rows.table.Tie as tie
 

@@ -1,8 +1,8 @@
 -- Two tables with the unit between them, each where the one before it ends; of at most so many lines as a good sheet has.
 use native.Mathlib.Omega.{arith}
-use Rattle.report.proofs.LawPut.{then, more}
-use Rattle.report.specs.Report.{figuresText}
 use borrow.Author.Needs.{needs}
+use Rattle.report.specs.Report.{figuresText}
+use Rattle.report.proofs.LawPut.{then, more}
 use Rattle.report.proofs.told.figures.Statement.{statement}
 use Rattle.report.proofs.told.figures.Tie as tie
 

@@ -3,7 +3,7 @@ use Prim.Native.Nat.{ℕ}
 use mathlib.Core.Path.{_≡_, refl}
 use mathlib.Core.List.{List, [], _∷_, _++_}
 use Rattle.numerals.specs.Numeral.{significant, numeral}
-use Rattle.report.specs.Report.{numberText, amountsText, rowText, linesText, tableText, figuresText, refusalText}
+use Rattle.report.specs.Report.{numberText, amountsText, rowText, linesText, tableText, unitText, figuresText, refusalText}
 
 -- exact 1 330720000000 231504000000 94255200000 4960800000
 abbrev firstExact : List ℕ
@@ -42,7 +42,7 @@ pub document-000 :
     (330720000000 ∷ 231504000000 ∷ 94255200000 ∷ 4960800000 ∷ 330720000000 ∷ 231504000000 ∷ 94255200000 ∷ 4960800000 ∷ [])
     (3307200 ∷ 2315040 ∷ 942552 ∷ 49608 ∷ 3307200 ∷ 2315040 ∷ 942552 ∷ 49608 ∷ [])
     ≡ firstExact ++ totalExact ++ unitLine ++ firstShown ++ totalShown
-unfolding figuresText tableText linesText rowText amountsText numberText numeral significant
+unfolding figuresText unitText tableText linesText rowText amountsText numberText numeral significant
 document-000 = refl
 
 -- refused 11 line 128

@@ -12,8 +12,7 @@ returns c =
     let put = c .before .before .before .before .before .before .before .before .before .before .put in
     let number = c .before .before .before .before .before .before .number in
     let amounts = c .before .before .amounts in
-    let asked = c .before .before .before .before .before .before .before .before .before .before .before .before .before .before .before .pre in
-    more (then (then (put .ensures) (number .ensures)) (amounts .ensures)) (omega (arith, asked .named))
+    more (then (then (put .ensures) (number .ensures)) (amounts .ensures)) (omega arith)
 
 pub line-row-spec : {M : Type 1} → statement M
 line-row-spec =

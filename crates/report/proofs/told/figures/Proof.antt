@@ -9,16 +9,14 @@ use Rattle.report.proofs.told.figures.Tie as tie
 returns : tie.Need-returns
 unfolding figuresText
 returns c =
-    let table = c .before .before .before .before .before .before .before .before .before .before .before .before .before .before .before .before .before .before .before .before .before .table in
-    let put = c .before .before .before .before .before .before .before .before .before .before .before .before .before .before .before .before .put in
-    let number = c .before .before .before .before .before .before .before .before .before .before .before .before .number in
-    let put2 = c .before .before .before .before .before .before .before .put2 in
+    let table = c .before .before .before .before .before .before .before .before .before .before .before .table in
+    let unit-line = c .before .before .before .before .before .before .before .unit-line in
     let table2 = c .before .before .table2 in
-    let asked = c .before .before .before .before .before .before .before .before .before .before .before .before .before .before .before .before .before .before .before .before .before .before .before .before .before .before .before .pre in
-    more (then (then (then (then (table .ensures) (put .ensures)) (number .ensures)) (put2 .ensures)) (table2 .ensures)) (omega (arith, asked))
+    let asked = c .before .before .before .before .before .before .before .before .before .before .before .before .before .before .before .before .before .pre in
+    more (then (then (table .ensures) (unit-line .ensures)) (table2 .ensures)) (omega (arith, asked))
 
 pub figures-spec : {M : Type 1} → statement M
 figures-spec =
     tie.close
-    (tie.spec (λ c. search needs) (λ c κs. search needs) (λ c. search needs) (λ c κs. search needs) (λ c κs. search needs)
-    (λ c. search needs) (λ c κs. search needs) (λ c. search needs) (λ c κs. search needs) (λ c. search needs) returns)
+    (tie.spec (λ c. search needs) (λ c κs. search needs) (λ c κs. search needs) (λ c. search needs) (λ c κs. search needs)
+    (λ c. search needs) returns)

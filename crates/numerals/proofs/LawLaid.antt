@@ -7,7 +7,7 @@ use native.Mathlib.Nat.{le-antisymm, zero-add, add-zero, add-suc, suc-add}
 use native.Mathlib.Numerals.{add-one}
 use native.Mathlib.Omega.{arith}
 use lib.ListN.{length, take, drop, getD, set, replicate, length-replicate, replicate-append-replicate}
-use lib.Seq.{sets, sets-eq, set-out, length-sets, length-take-le, take-suc, take-all}
+use lib.Seq.{sets-eq, set-out, length-sets, length-take-le, take-suc, take-all}
 use Rattle.little.proofs.LawPart.{fill-done}
 use Rattle.numerals.specs.Laid.{laid, Lays}
 

@@ -1,14 +1,14 @@
 -- How a loop writes digits, the last first: each turn moves the last digit of what is left in front of those that stand. Assumes nothing.
 use Prim.Native.Nat.{ℕ, zero, suc, _+_, _-_, _/_, _≤_, _<_}
-use mathlib.Core.Path.{_≡_, refl, sym, ap, _∙_}
-use mathlib.Core.Bool.{Bool, true, false, _&&_}
+use mathlib.Core.Path.{_≡_, refl, _∙_}
+use mathlib.Core.Bool.{true, false, _&&_}
 use mathlib.Core.List.{List, [], _∷_, _++_, append-assoc, append-nil}
 use native.Mathlib.Numerals.{sub-one}
 use native.Mathlib.Omega.{arith}
 use lib.Dec.{eqb, ltb}
-use lib.ListN.{length, take, drop, set, getD, length-set, length-append, length-drop, drop-of-length-le}
+use lib.ListN.{length, take, drop, set, length-set, length-append, length-drop, drop-of-length-le}
 use lib.Seq.{take-all, drop-cons, getD-set-same, drop-set-lt}
-use borrow.Author.Tests.{lt-ltb, eq-eqb, ne-eqb, ltb-true, ltb-false}
+use borrow.Author.Tests.{lt-ltb, eq-eqb, ne-eqb, ltb-true}
 use Rattle.search.proofs.LawTest.{and-left, and-right, either-way, clash}
 use Rattle.numerals.specs.Laid.{Lays}
 use Rattle.numerals.specs.Numeral.{mostDigits, zeroDigit, digit, significant, numeral, Ends}

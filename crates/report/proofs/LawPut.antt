@@ -1,11 +1,11 @@
 -- Texts put one after the other: what is put where another text ends makes one text with it. So is a table put, row after row.
-use Prim.Native.Nat.{ℕ, zero, suc, _+_, _*_, _≤_}
-use mathlib.Core.Path.{_≡_, refl, sym, ap, _∙_}
-use mathlib.Core.List.{List, [], _∷_, _++_}
+use Prim.Native.Nat.{ℕ, _+_, _*_, _≤_}
+use mathlib.Core.Path.{_≡_, ap}
+use mathlib.Core.List.{List, [], _++_}
 use native.Mathlib.Nat.{mul-suc}
 use native.Mathlib.Numerals.{add-one}
 use native.Mathlib.Omega.{arith}
-use lib.ListN.{length, length-append}
+use lib.ListN.{length-append}
 use Rattle.numerals.specs.Laid.{laid, Lays}
 use Rattle.numerals.proofs.LawLaid.{laid-none, laid-more}
 use Rattle.report.specs.Report.{mostRow, numberText, rowText, linesText}

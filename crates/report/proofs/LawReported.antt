@@ -1,7 +1,7 @@
 -- What the promise says: two outcomes that it allows are equal, a text with room for every report is never short, and the bytes that are
 -- counted are the report.
 use Prim.Native.Nat.{ℕ, _≤_}
-use mathlib.Core.Path.{_≡_, refl, sym, ap, _∙_}
+use mathlib.Core.Path.{_≡_, sym, ap, _∙_}
 use mathlib.Core.Bool.{true, false}
 use mathlib.Core.List.{List}
 use native.Mathlib.Omega.{arith}

@@ -1,3 +1,4 @@
 pub mod LawPut
 pub mod LawTold
 pub mod LawReported
+pub mod LawWorked

@@ -83,9 +83,13 @@ tableText name cells n = linesText name cells n ++ rowText name totalWord cells 
 
 -- ---- the report
 
+-- the unit's line
+unfoldable pub unitText : (W : ℕ) → List ℕ
+unitText W = unitWord ++ numberText W ++ lineEnd
+
 -- two tables of n lines, and W
 unfoldable pub figuresText : (n W : ℕ) (exact shown : List ℕ) → List ℕ
-figuresText n W exact shown = tableText exactWord exact n ++ unitWord ++ numberText W ++ lineEnd ++ tableText shownWord shown n
+figuresText n W exact shown = tableText exactWord exact n ++ unitText W ++ tableText shownWord shown n
 
 unfoldable pub refusalText : (number line : ℕ) → List ℕ
 refusalText number line = refusedWord ++ numberText number ++ lineWord ++ numberText line ++ lineEnd

@@ -1,18 +1,15 @@
 -- The invariant: the rows of the first i lines are put. A turn puts one more.
 use Prim.Native.Nat.{_≤_, _-_, _*_}
-use mathlib.Core.Path.{_≡_, ap, _∙_}
+use mathlib.Core.Path.{ap, _∙_}
 use native.Mathlib.Omega.{arith}
 use lib.ListN.{length}
+use borrow.Author.Needs.{needs}
 use Rattle.numerals.proofs.LawLaid.{length-laid}
 use Rattle.report.specs.Report.{mostRow, linesText}
 use Rattle.report.specs.Inner.{Puts}
 use Rattle.report.proofs.LawPut.{lines-start, lines-step, lines-done}
-use borrow.Author.Needs.{needs}
 use Rattle.report.proofs.rows.line_rows.Statement.{statement}
 use Rattle.report.proofs.rows.line_rows.Tie as tie
-use Rattle.report.proofs.rows.line_rows.Reads as reads
-use Rattle.report.proofs.rows.line_rows.Lts as lts
-use Rattle.report.proofs.rows.line_row.Reads as line-row-reads
 
 abbrev Inv-loop : tie.InvT-loop
 Inv-loop text₀ at name cells lines next₀ i₀ text next i = (i ≤ lines) × Puts (linesText name cells i) (mostRow * i) at text₀ next text
@@ -20,45 +17,25 @@ Inv-loop text₀ at name cells lines next₀ i₀ text next i = (i ≤ lines) ×
 abbrev μ-loop : tie.MeasureT-loop
 μ-loop text₀ at name cells lines next₀ i₀ text next i = lines - i
 
--- src/rows.rt:55:5
 loop-holds : tie.Need-loop-holds Inv-loop μ-loop
 loop-holds c = (search needs, lines-start _ _ _ _)
 
--- src/rows.rt:56:9
 line-row-requires : tie.Need-line-row-requires Inv-loop μ-loop
 line-row-requires c κs =
-    record { named = c .before .before .before .before .before .before .pre .named; few = omega (arith, c .before .before .before .before .before .before .pre .few); within = omega (arith, c .before .before .before .before .before .before .pre .within, c .before .before .loop .inv .1 .ends, c .before .before .loop .inv .1 .few) }
+    let asked = c .before .before .before .before .before .before .pre in
+    let loop = c .before .before .loop in
+    record { named = asked .named; few = omega (arith, asked .few); within = omega (arith, asked .within, loop .inv .1 .ends, loop .inv .1 .few) }
 
--- src/rows.rt:57:9
-add-i : tie.Need-add-i Inv-loop μ-loop
-add-i c = search needs
-
--- src/rows.rt:55:5
-loop-less : tie.Need-loop-less Inv-loop μ-loop
-loop-less c = search needs
-
--- src/rows.rt:55:5
 loop-again : tie.Need-loop-again Inv-loop μ-loop
 loop-again c = (search needs, lines-step _ _ _ (c .before .before .before .before .before .loop .inv .1) (c .before .before .line-row .ensures))
 
--- src/rows.rt:48:1
 same-length : tie.Need-same-length Inv-loop μ-loop
 same-length c = ap length (c .before .loop .inv .1 .holds) ∙ length-laid _ _ _
 
--- src/rows.rt:48:1
 returns : tie.Need-returns Inv-loop μ-loop
 returns c = lines-done _ _ _ _ (omega arith) (c .before .loop .inv .1)
 
 pub line-rows-spec : {M : Type 1} → statement M
 line-rows-spec =
     tie.close
-    (tie.spec
-    Inv-loop
-    μ-loop
-    loop-holds
-    line-row-requires
-    add-i
-    loop-less
-    loop-again
-    same-length
-    returns)
+    (tie.spec Inv-loop μ-loop loop-holds line-row-requires (λ c. search needs) (λ c. search needs) loop-again same-length returns)

@@ -1,44 +1,27 @@
 -- The desk's answer is told apart: a refusal by its number and line, figures by the tables, which are the first cells of the results.
 use mathlib.Core.Path.{sym, _∙_}
 use native.Mathlib.Omega.{arith}
-use lib.Seq.{length-take-le}
 use borrow.Author.Needs.{needs}
 use Rattle.desk.proofs.LawTable.{refusal}
 use Rattle.report.proofs.LawTold.{accepted-few, refusal-told, figures-told}
 use Rattle.report.proofs.told.told.Statement.{statement}
 use Rattle.report.proofs.told.told.Tie as tie
 
-array-share-prefix-exact : tie.Need-array-share-prefix-exact
-array-share-prefix-exact c =
-    let answer = c .before .before .before .before .before .before .before .declare .ensures .demand1 .answer in
-    omega (arith, accepted-few _ (sym answer ∙ c .before .before .before .enum-told .given .1))
-
-slice-aggregate-figures : tie.Need-slice-aggregate-figures
-slice-aggregate-figures c =
-    let answer = c .before .before .before .before .before .before .before .before .declare .ensures .demand1 .answer in
-    sym (length-take-le _ _ (omega (arith, accepted-few _ (sym answer ∙ c .before .before .before .before .enum-told .given .1))))
-
-array-share-prefix-shown : tie.Need-array-share-prefix-shown
-array-share-prefix-shown c =
-    let answer = c .before .before .before .before .before .before .before .before .declare .ensures .demand1 .answer in
-    omega (arith, accepted-few _ (sym answer ∙ c .before .before .before .before .enum-told .given .1))
-
-slice-aggregate-figures-2 : tie.Need-slice-aggregate-figures-2
-slice-aggregate-figures-2 c =
-    let answer = c .before .before .before .before .before .before .before .before .before .declare .ensures .demand1 .answer in
-    sym (length-take-le _ _ (omega (arith, accepted-few _ (sym answer ∙ c .before .before .before .before .before .enum-told .given .1))))
-
 figures-requires : tie.Need-figures-requires
 figures-requires c κs =
-    let answer = c .before .before .before .before .before .before .before .before .before .declare .ensures .demand1 .answer in
-    omega (arith, accepted-few _ (sym answer ∙ c .before .before .before .before .before .enum-told .given .1))
+    let answer = c .before .before .before .before .before .before .before .before .before .before .before .declare .ensures .demand1 .answer in
+    omega (arith, accepted-few _ (sym answer ∙ c .before .before .before .before .before .before .before .enum-told .given .1))
 
 returns : tie.Need-returns
 returns c =
-    let desk = c .before .before .before .before .before .before .before .before .before .before .before .before .declare .ensures in
-    let told = c .before .before .before .before .before .before .before .before .enum-told .given .1 in
-    let lines = c .before .before .before .before .before .before .before .line-count .ensures .eq in
-    figures-told _ _ _ _ _ _ _ (sym (desk .demand1 .answer) ∙ told) (rw told at desk) lines (c .before .before .before .before .before .unit-of .ensures) (c .before .before .figures .ensures)
+    let desk = c .before .before .before .before .before .before .before .before .before .before .before .before .before .before .declare .ensures in
+    let told = c .before .before .before .before .before .before .before .before .before .before .enum-told .given .1 in
+    let lines = c .before .before .before .before .before .before .before .before .before .line-count .ensures .eq in
+    let unit = c .before .before .before .before .before .before .before .unit-of .ensures in
+    let exact = c .before .before .before .before .before .first-cells .ensures in
+    let shown = c .before .before .before .first-cells2 .ensures in
+    let figures = rw (exact, shown) at (c .before .before .figures .ensures) in
+    figures-told _ _ _ _ _ _ _ (sym (desk .demand1 .answer) ∙ told) (rw told at desk) lines unit figures
 
 returns-2 : tie.Need-returns-2
 returns-2 c =
@@ -50,6 +33,6 @@ pub told-spec : {M : Type 1} → statement M
 told-spec =
     tie.close
     (tie.spec (λ c. search needs) (λ c. search needs) (λ c κs. search needs) (λ c. search needs) (λ c κs. search needs)
-    (λ c. search needs) (λ c. search needs) (λ c κs. search needs) array-share-prefix-exact slice-aggregate-figures
-    array-share-prefix-shown slice-aggregate-figures-2 figures-requires (λ c. search needs) returns (λ c κs. search needs)
-    (λ c κs. search needs) (λ c κs. search needs) (λ c. search needs) returns-2)
+    (λ c. search needs) (λ c. search needs) (λ c κs. search needs) (λ c. search needs) (λ c κs. search needs) (λ c. search needs)
+    (λ c κs. search needs) figures-requires (λ c. search needs) returns (λ c κs. search needs) (λ c κs. search needs)
+    (λ c κs. search needs) (λ c. search needs) returns-2)

@@ -11,7 +11,8 @@ use lib.Seq.{take-all, drop-cons, getD-set-same, drop-set-lt}
 use borrow.Author.Tests.{lt-ltb, eq-eqb, ne-eqb, ltb-true}
 use Rattle.search.proofs.LawTest.{and-left, and-right, either-way, clash}
 use Rattle.numerals.specs.Laid.{Lays}
-use Rattle.numerals.specs.Numeral.{mostDigits, zeroDigit, digit, significant, numeral, Ends}
+use Rattle.numerals.specs.Numeral.{mostDigits, zeroDigit, digit, significant, numeral}
+use Rattle.numerals.specs.Inner.{Ends}
 
 -- a store in front of what stands from suc k on
 stored : (k v : ℕ) (t : List ℕ) → k < length t → drop k (set t k v) ≡ v ∷ drop (suc k) t

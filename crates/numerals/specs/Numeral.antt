@@ -1,10 +1,8 @@
 -- A number's decimal numeral, in ASCII. Assumes nothing.
-use Prim.Native.Nat.{ℕ, zero, suc, _+_, _-_, _*_, _/_, _%_, _≤_}
-use mathlib.Core.Path.{_≡_}
+use Prim.Native.Nat.{ℕ, zero, suc, _+_, _-_, _*_, _/_, _%_}
 use mathlib.Core.Bool.{cond}
 use mathlib.Core.List.{List, [], _∷_, _++_}
 use lib.Dec.{eqb}
-use lib.ListN.{length, drop}
 
 -- a u64 has at most these digits
 abbrev pub mostDigits : ℕ
@@ -31,9 +29,3 @@ numeral n = cond (eqb n 0) (zeroDigit ∷ []) (significant mostDigits n)
 unfoldable pub valueOf : (so-far : ℕ) (digits : List ℕ) → ℕ
 valueOf so-far [] = so-far
 valueOf so-far (d ∷ digits) = valueOf (10 * so-far + (d - zeroDigit)) digits
-
--- the list is these digits from r on
-pub record Ends (digits : List ℕ) (r : ℕ) (list : List ℕ) : Type 0 where
-  pub within : r ≤ mostDigits
-  pub size : length list ≡ mostDigits
-  pub ends : drop r list ≡ digits

@@ -2,7 +2,8 @@
 ghost use mathlib.Core.Path.{_≡_};
 ghost use lib.ListN.{length};
 ghost use Rattle.numerals.specs.Laid.{Lays};
-ghost use Rattle.numerals.specs.Numeral.{mostDigits, digit, numeral, Ends, significant};
+ghost use Rattle.numerals.specs.Numeral.{mostDigits, digit, numeral, significant};
+ghost use Rattle.numerals.specs.Inner.{Ends};
 use super::bytes::lay;
 
 // The digits of a number, at most.

@@ -1,5 +1,4 @@
 // The technique search. It is handed the technique block alone.
-ghost use mathlib.Core.Path.{_≡_};
 ghost use Prim.Native.Nat.{_<_, _≤_, _+_, _*_};
 ghost use lib.ListN.{length};
 ghost use Rattle.search.specs.First.{Finds};

@@ -1,5 +1,4 @@
 -- Where the header is right the technique block is as long as it counts, so that its runs can be filled in, and with them every row is checked.
-use mathlib.Core.Path.{sym, _∙_}
 use native.Mathlib.Omega.{arith}
 use Rattle.desk.proofs.LawBook.{header-lies, block-size}
 use borrow.Author.Needs.{needs}

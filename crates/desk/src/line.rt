@@ -4,6 +4,9 @@ ghost use Prim.Native.Nat.{_<_, _≤_, _+_};
 ghost use lib.ListN.{length};
 ghost use Rattle.desk.specs.Inner.{counted, farthest, LineIn};
 ghost use Rattle.desk.specs.Line.{floatAt, readingAt, lineAt, lineOf};
+use super::inside::byte_in;
+use super::inside::u16_in;
+use super::inside::u64_in;
 use super::key::Key;
 use super::key::key_from;
 use super::key::key_in;
@@ -13,11 +16,8 @@ use super::sheet::LINE_SIZE;
 use super::sheet::line_start;
 use amounts::reading::from_bits;
 use little::read::byte_at;
-use little::read::byte_in;
 use little::read::u16_at;
-use little::read::u16_in;
 use little::read::u64_at;
-use little::read::u64_in;
 
 // Efficiency and reuse are in tenths of a percent.
 pub const WHOLE_SHARE: usize = amounts::line::WHOLE_SHARE as usize;

@@ -188,7 +188,7 @@ accepted-both Accepted lines h = (refl, h)
 accepted-both (RefusedFile k) lines h = clash (cc)
 accepted-both (RefusedLine k line) lines h = clash (cc)
 
-accepted : (f : Lent) (room : ℕ) → answerOf f room ≡ Accepted → (byFiles f room ≡ Accepted) × (byLines (lineCount (f .sheet)) (lineOutcome f) ≡ Accepted)
+pub accepted : (f : Lent) (room : ℕ) → answerOf f room ≡ Accepted → (byFiles f room ≡ Accepted) × (byLines (lineCount (f .sheet)) (lineOutcome f) ≡ Accepted)
 unfolding answerOf
 accepted f room h = accepted-both (byFiles f room) (byLines (lineCount (f .sheet)) (lineOutcome f)) h
 

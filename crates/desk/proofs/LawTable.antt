@@ -23,7 +23,7 @@ use Rattle.desk.specs.Sheet.{sheetHeader, sheetHeaderSize, sheetFits, sh
 use Rattle.desk.specs.Cells.{width, tableSize, cellsOf, zeros, plus}
 use Rattle.desk.specs.Tally.{add}
 use Rattle.desk.specs.Table.{rowGiven, rows, total, tableOf, byFiles, byLines, orElseLines, cellsAfter}
-use Rattle.desk.specs.Inner.{Fitting, Ready}
+use Rattle.desk.specs.Inner.{Fitting, Ready, Fillable}
 use Rattle.desk.specs.declared.answer.LineFault.{LineFault}
 use Rattle.desk.specs.declared.answer.Outcome.{Outcome}
 use Rattle.desk.specs.declared.answer.Outcome.the-variants.{Accepted, RefusedFile, RefusedLine}
@@ -33,6 +33,7 @@ use Rattle.desk.specs.declared.account.LineOutcome.the-variants.{Given, 
 use Rattle.desk.specs.declared.cells.TableRow.{TableRow}
 use Rattle.desk.specs.declared.tally.Tally.{Tally}
 use Rattle.desk.proofs.LawAccount.{Balances, lineMost}
+use Rattle.desk.proofs.LawBook.{line-in}
 use Rattle.desk.proofs.LawColumns.{zip, zip-at, Balanced, balanced-cell, balanced-more}
 
 -- an outcome whose case is not the first is a refusal
@@ -147,3 +148,17 @@ ready f room h =
     (λ r. clash (cc)))
     (λ q. clash (cc)))
     (λ p. clash (cc))
+
+-- what is not refused before the lines can be filled in
+pub fillable : (f : Lent) (n : ℕ) (cells : List ℕ) → bookOk (f .book) ≡ true → sheetOk (f .sheet) ≡ true → n ≡ lineCount (f .sheet)
+    → tableSize n ≤ length cells → Fillable f n cells
+unfolding sheetOk
+fillable f n cells good right e room =
+    let few = lines-few (f .sheet) right in
+    let header = and-left (sheetHeaderOk (f .sheet)) (linesOk (f .sheet)) right in
+    record {
+      few = omega arith;
+      fits = room;
+      book = good;
+      there = λ i l. record { small = omega arith; lies = line-in (f .sheet) header i (omega arith) };
+    }

@@ -14,7 +14,7 @@ use Rattle.settle.specs.Step.{shownTable}
 use Rattle.desk.specs.Key.{keyLess}
 use Rattle.desk.specs.Book.{rowCount, rowStart, keyAt, fieldsAt, techniqueCount, techniqueEfficiency, techniquesOk}
 use Rattle.desk.specs.Book.{fieldsOk, coefficientAt, mostCoefficient, bookOk}
-use Rattle.desk.specs.Sheet.{lineCount, lineSize, sheetOk, mostLines}
+use Rattle.desk.specs.Sheet.{lineCount, lineSize, sheetOk, mostLines, lineStart}
 use Rattle.desk.specs.Line.{mostKilograms}
 use Rattle.desk.specs.Lent.{Lent}
 use Rattle.desk.specs.Cells.{width, tableSize, cellsOf}
@@ -51,6 +51,11 @@ RowIn b at = at + 24 ≤ length b
 -- the bytes of a line that starts at `at` are there
 abbrev pub LineIn : (s : List ℕ) (at : ℕ) → Type 0
 LineIn s at = at + lineSize ≤ length s
+
+-- line i is there
+pub record LineThere (s : List ℕ) (i : ℕ) : Type 0 where
+  pub small : i < counted
+  pub lies : LineIn s (lineStart s i)
 
 -- ---- a key in two numbers
 
@@ -178,11 +183,17 @@ pub record Ready (f : Lent) (room : ℕ) : Type 0 where
   pub sheet : sheetOk (f .sheet) ≡ true
   pub fits : tableSize (lineCount (f .sheet)) ≤ room
 
+-- what accounting for line i asks
+pub record LineReady (f : Lent) (i : ℕ) : Type 0 where
+  pub book : bookOk (f .book) ≡ true
+  pub there : LineThere (f .sheet) i
+
 -- what filling asks
-pub record Fillable (b : List ℕ) (lines : ℕ) (cells : List ℕ) : Type 0 where
+pub record Fillable (f : Lent) (lines : ℕ) (cells : List ℕ) : Type 0 where
   pub few : lines ≤ mostLines
   pub fits : tableSize lines ≤ length cells
-  pub book : bookOk b ≡ true
+  pub book : bookOk (f .book) ≡ true
+  pub there : (i : ℕ) → i < lines → LineThere (f .sheet) i
 
 -- what filling says of its answer r and of what the cells hold afterwards
 pub record Filled (n : ℕ) (l : ℕ → LineOutcome) (cells : List ℕ) (r : Outcome) (after : List ℕ) : Type 0 where

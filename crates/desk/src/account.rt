@@ -8,7 +8,7 @@ ghost use Rattle.desk.specs.Reading.{shareOf};
 ghost use Rattle.desk.specs.Row.{rowOf};
 ghost use Rattle.desk.specs.Lent.{lent};
 ghost use Rattle.desk.specs.Account.{treated, treatmentOf, generatedOf, byTreatment, byRow, accountOf, lineOutcome};
-ghost use Rattle.desk.specs.Inner.{counted, SmallRow, SmallProduct, Treatable, Accountable};
+ghost use Rattle.desk.specs.Inner.{SmallRow, SmallProduct, Treatable, Accountable, LineReady};
 use super::answer::LineFault;
 use super::book::technique_block;
 use super::cells::TableRow;
@@ -151,7 +151,7 @@ pub(crate) fn account(b: &[u8], line: Line) -> LineOutcome
 }
 
 pub(crate) fn line_outcome(b: &[u8], s: &[u8], i: usize) -> LineOutcome
-    requires { ⌜ (i < counted) × (bookOk (now b) ≡ true) ⌝ }
+    requires { ⌜ LineReady (lent (now b) (now s)) i ⌝ }
     ensures { λ r. ⌜ r ≡ lineOutcome (lent (now (b .entry)) (now (s .entry))) i ⌝ }
 {
     account(b, line_of(s, i))

@@ -15,7 +15,7 @@ use super::inside::u32_in;
 use super::key::CODE_RANGE;
 use super::key::Key;
 use super::key::Packed;
-use super::key::key_in;
+use super::key::key_from;
 use super::key::packed_less;
 use super::run::fill_runs;
 use super::run::list_ok;
@@ -94,7 +94,7 @@ pub(crate) fn key_at(b: &[u8], at: usize) -> Key
     requires { ⌜ RowIn (now b) at ⌝ }
     ensures { λ r. ⌜ r ≡ keyAt (now (b .entry)) at ⌝ }
 {
-    key_in(b, at, byte_in(b, at + 10), byte_in(b, at + 11))
+    key_from(b, at, byte_in(b, at + 10), byte_in(b, at + 11))
 }
 
 pub(crate) fn packed_at(b: &[u8], at: usize) -> Packed

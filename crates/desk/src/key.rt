@@ -1,11 +1,10 @@
 // The seven fields by which a row of the book is found, and by which the rows rise.
 ghost use mathlib.Core.Path.{_≡_};
-ghost use Prim.Native.Nat.{_<_, _≤_, _+_};
+ghost use Prim.Native.Nat.{_≤_, _+_};
 ghost use lib.ListN.{length};
-ghost use Rattle.desk.specs.Inner.{farthest, Packs, SmallKey, keySmall, packedLess};
+ghost use Rattle.desk.specs.Inner.{Packs, SmallKey, keySmall, packedLess};
 ghost use Rattle.desk.specs.Key.{keyFrom, keySame, allScales};
 use super::inside::u16_in;
-use little::read::u16_at;
 
 pub struct Key {
     pub industry: usize,
@@ -27,22 +26,6 @@ pub struct Packed {
 
 // Rows and lines begin with the same five codes.
 pub(crate) fn key_from(s: &[u8], at: usize, medium: usize, pollutant: usize) -> Key
-    requires { ⌜ at < farthest ⌝ }
-    ensures { λ r. ⌜ r ≡ keyFrom (now (s .entry)) at medium pollutant ⌝ }
-{
-    Key {
-        industry: u16_at(s, at),
-        product: u16_at(s, at + 2),
-        material: u16_at(s, at + 4),
-        process: u16_at(s, at + 6),
-        scale: u16_at(s, at + 8),
-        medium,
-        pollutant,
-    }
-}
-
-// The same where the five codes are there.
-pub(crate) fn key_in(s: &[u8], at: usize, medium: usize, pollutant: usize) -> Key
     requires { ⌜ at + 10 ≤ length (now s) ⌝ }
     ensures { λ r. ⌜ r ≡ keyFrom (now (s .entry)) at medium pollutant ⌝ }
 {

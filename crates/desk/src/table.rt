@@ -50,7 +50,7 @@ pub(crate) fn by_files(b: &[u8], s: &[u8], room: usize) -> Outcome
 
 // The lines from 1 up, and the row of sums; or zeros and the first refusal.
 pub(crate) fn fill(b: &[u8], s: &[u8], lines: usize, exact: &mut [u64]) -> Outcome
-    requires { ⌜ Fillable (now b) lines (now exact) ⌝ }
+    requires { ⌜ Fillable (lent (now b) (now s)) lines (now exact) ⌝ }
     ensures { λ r. ⌜ Filled lines (lineOutcome (lent (now (b .entry)) (now (s .entry)))) (now (exact .entry)) r (now (exact .exit)) ⌝ }
 {
     let mut tally = Tally::start();

@@ -7,7 +7,6 @@ use native.Mathlib.Omega.{arith}
 use lib.ListN.{length, take, drop, replicate}
 use lib.Seq.{take-at}
 use borrow.Author.Tests.{le-leb, lt-leb}
-use Rattle.search.proofs.LawTest.{clash}
 use Rattle.numerals.proofs.LawLaid.{length-laid, laid-is}
 use Rattle.settle.proofs.LawShown.{shown-length}
 use Rattle.desk.specs.Lent.{Lent}
@@ -16,12 +15,13 @@ use Rattle.desk.specs.Account.{lineOutcome}
 use Rattle.desk.specs.Cells.{tableSize}
 use Rattle.desk.specs.Unit.{unitOfSheet}
 use Rattle.desk.specs.Answer.{answerNumber, answerLine}
-use Rattle.desk.specs.Table.{byFiles, byLines, orElseLines, answerOf}
+use Rattle.desk.specs.Table.{answerOf}
 use Rattle.desk.specs.Declare.{shownAfter, Declared}
 use Rattle.desk.specs.Inner.{Ready}
 use Rattle.desk.specs.declared.answer.Outcome.{Outcome}
 use Rattle.desk.specs.declared.answer.Outcome.the-variants.{Accepted, RefusedFile, RefusedLine}
 use Rattle.desk.proofs.LawTable.{ready, lines-few}
+use Rattle.desk.proofs.LawDemands.{accepted}
 use Rattle.desk.proofs.LawDeclare.{first-cells, settles}
 use Rattle.report.specs.declared.Written.the-variants.{Bytes, Short}
 use Rattle.report.specs.Report.{figuresText, refusalText, mostCells, exactOf, shownOf, reportFor, reportOf}
@@ -30,15 +30,9 @@ use Rattle.report.specs.Inner.{mostRefusal, Puts}
 use Rattle.report.proofs.LawPut.{more}
 
 module _ (f : Lent) where
-  files-accepted : (files lines : Outcome) → orElseLines files lines ≡ Accepted → files ≡ Accepted
-  files-accepted Accepted lines h = refl
-  files-accepted (RefusedFile fault) lines h = clash (cc)
-  files-accepted (RefusedLine fault line) lines h = clash (cc)
-
   -- what an accepted sheet is
   accepted-ready : answerOf f mostCells ≡ Accepted → Ready f mostCells
-  unfolding answerOf
-  accepted-ready h = ready f mostCells (files-accepted (byFiles f mostCells) (byLines (lineCount (f .sheet)) (lineOutcome f)) h)
+  accepted-ready h = ready f mostCells (accepted f mostCells h .0)
 
   pub accepted-few : answerOf f mostCells ≡ Accepted → lineCount (f .sheet) ≤ mostLines
   accepted-few h = lines-few (f .sheet) (accepted-ready h .sheet)

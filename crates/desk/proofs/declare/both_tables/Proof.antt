@@ -2,7 +2,7 @@
 use mathlib.Core.Path.{sym, _∙_}
 use native.Mathlib.Omega.{arith}
 use borrow.Author.Needs.{needs}
-use Rattle.desk.proofs.LawTable.{refusal, lines-few}
+use Rattle.desk.proofs.LawTable.{refusal, fillable}
 use Rattle.desk.proofs.LawDeclare.{showable, tables-shown, allows, both-refused}
 use Rattle.desk.proofs.declare.both_tables.Statement.{statement}
 use Rattle.desk.proofs.declare.both_tables.Tie as tie
@@ -11,7 +11,7 @@ fill-requires : tie.Need-fill-requires
 fill-requires c κs =
     let ready = c .before .before .before .before .before .before .pre in
     let lines = c .before .line-count .ensures .eq in
-    record { few = omega (arith, lines-few _ (ready .sheet)); fits = omega (arith, ready .fits); book = ready .book }
+    fillable _ _ _ (ready .book) (ready .sheet) lines (omega (arith, ready .fits))
 
 show-requires : tie.Need-show-requires
 show-requires c κs =

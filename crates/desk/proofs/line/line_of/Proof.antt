@@ -1,16 +1,20 @@
--- Where the line is there it is read without tests; both ways of reading say the same.
+-- Field by field, from where the line starts.
+use native.Mathlib.Omega.{arith}
 use borrow.Author.Needs.{needs}
 use Rattle.desk.specs.Line.{lineOf}
 use Rattle.desk.proofs.line.line_of.Statement.{statement}
 use Rattle.desk.proofs.line.line_of.Tie as tie
 
+line-start-requires : tie.Need-line-start-requires
+line-start-requires c κs = c .before .pre .small
+
 returns : tie.Need-returns
 unfolding lineOf
-returns c = rw (← c .before .before .line-start .ensures .eq) (c .line-in .ensures)
-
-returns-2 : tie.Need-returns-2
-unfolding lineOf
-returns-2 c = rw (← c .before .before .line-start .ensures .eq) (c .line-at .ensures)
+returns c = rw (← c .before .before .before .before .before .before .before .before .line-start .ensures .eq) (cc)
 
 pub line-of-spec : {M : Type 1} → statement M
-line-of-spec = tie.close (tie.spec (λ c κs. search needs) (λ c. search needs) (λ c κs. search needs) (λ c κs. search needs) returns returns-2)
+line-of-spec =
+    tie.close
+    (tie.spec line-start-requires (λ c κs. search needs) (λ c κs. search needs) (λ c κs. search needs) (λ c. search needs)
+    (λ c κs. search needs) (λ c. search needs) (λ c κs. search needs) (λ c. search needs) (λ c κs. search needs) (λ c. search needs)
+    (λ c κs. search needs) (λ c κs. search needs) returns)

@@ -3,14 +3,14 @@ use mathlib.Core.Path.{sym, _∙_}
 use native.Mathlib.Omega.{arith}
 use borrow.Author.Needs.{needs}
 use Rattle.desk.specs.Table.{answerOf}
-use Rattle.desk.proofs.LawTable.{refusal, refused-first, ready, lines-few, refused-cells}
+use Rattle.desk.proofs.LawTable.{refusal, refused-first, ready, fillable, refused-cells}
 use Rattle.desk.proofs.table.exact_table.Statement.{statement}
 use Rattle.desk.proofs.table.exact_table.Tie as tie
 
 fill-requires : tie.Need-fill-requires
 fill-requires c κs =
     let files = ready _ _ (sym (c .before .before .before .before .by-files .ensures) ∙ c .before .before .enum-told .given .1) in
-    record { few = omega (arith, lines-few _ (files .sheet)); fits = omega (arith, files .fits); book = files .book }
+    fillable _ _ _ (files .book) (files .sheet) (c .before .line-count .ensures .eq) (omega (arith, files .fits))
 
 returns : tie.Need-returns
 unfolding answerOf

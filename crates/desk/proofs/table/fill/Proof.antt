@@ -45,6 +45,9 @@ returns c =
       table = refused-cells _ _ _ _ _ (λ e. clash (cc)) (clear .ensures ∙ ap (λ (m : ℕ). replicate m 0) (loop .inv .1));
     }
 
+line-outcome-requires : tie.Need-line-outcome-requires Inv-loop μ-loop
+line-outcome-requires c κs = record { book = c .before .before .before .before .before .before .pre .book; there = c .before .before .before .before .before .before .pre .there (c .before .loop .i) (c .loop-test .taken) }
+
 add-requires : tie.Need-add-requires Inv-loop μ-loop
 add-requires c κs =
     let entry = c .before .before .before .before .before .before .before .before .before .before .before .before .before .before in
@@ -76,7 +79,7 @@ returns-2 c =
 pub fill-spec : {M : Type 1} → statement M
 fill-spec =
     tie.close
-    (tie.spec Inv-loop μ-loop (λ c κs. search needs) loop-holds (λ c κs. search needs) (λ c. search needs) (λ c κs. search needs)
+    (tie.spec Inv-loop μ-loop (λ c κs. search needs) loop-holds line-outcome-requires (λ c. search needs) (λ c κs. search needs)
     (λ c. search needs) (λ c. search needs) (λ c. search needs) returns (λ c. search needs) (λ c. search needs) (λ c. search needs)
     (λ c. search needs) (λ c. search needs) (λ c. search needs) (λ c. search needs) (λ c κs. search needs) add-requires
     (λ c. search needs) (λ c. search needs) loop-again (λ c. search needs) (λ c. search needs) (λ c. search needs) (λ c. search needs)

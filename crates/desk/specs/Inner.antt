@@ -12,7 +12,7 @@ use Rattle.settle.specs.Shown.{at}
 use Rattle.settle.specs.Table.{Good}
 use Rattle.settle.specs.Step.{shownTable}
 use Rattle.desk.specs.Key.{keyLess}
-use Rattle.desk.specs.Book.{rowCount, rowStart, keyAt, fieldsAt, techniqueCount, techniqueEfficiency, techniquesOk}
+use Rattle.desk.specs.Book.{bookHeader, rowCount, rowStart, keyAt, fieldsAt, techniqueCount, techniqueEfficiency, techniquesOk}
 use Rattle.desk.specs.Book.{fieldsOk, coefficientAt, mostCoefficient, bookOk}
 use Rattle.desk.specs.Sheet.{lineCount, lineSize, sheetOk, mostLines, lineStart}
 use Rattle.desk.specs.Line.{mostKilograms}
@@ -46,7 +46,7 @@ farthest = 8_589_934_592
 
 -- the bytes of a row that starts at `at` are there
 abbrev pub RowIn : (b : List ℕ) (at : ℕ) → Type 0
-RowIn b at = at + 24 ≤ length b
+RowIn b at = at + bookHeader b .rowSize ≤ length b
 
 -- the bytes of a line that starts at `at` are there
 abbrev pub LineIn : (s : List ℕ) (at : ℕ) → Type 0

@@ -2,10 +2,12 @@
 -- copy line 1 down, or show zeros do not meet it.
 use Prim.Native.Nat.{ℕ, _+_, _<_}
 use mathlib.Core.Path.{_≡_, refl, sym, ap, _∙_}
+use mathlib.Core.Bool.{true}
 use mathlib.Core.List.{List, [], _∷_, _++_}
 use mathlib.Core.Logic.{_≢_}
 use native.Mathlib.Omega.{arith}
 use lib.ListN.{replicate}
+use Rattle.search.proofs.LawTest.{clash}
 use Rattle.search.specs.First.{first}
 use Rattle.search.specs.Test.{all, every}
 use Rattle.little.specs.Read.{u16At, u32At, u64At}
@@ -20,9 +22,12 @@ use Rattle.desk.specs.Line.{readingAt, lineOf}
 use Rattle.desk.specs.Cells.{width}
 use Rattle.desk.specs.Unit.{unitOf, unitOfSheet}
 use Rattle.desk.specs.Lent.{Lent, lent}
-use Rattle.desk.specs.Account.{treatmentOf, generatedOf, accountOf, lineOutcome}
+use Rattle.desk.specs.Account.{treatmentOf, generatedOf, excessive, accountOf, lineOutcome}
 use Rattle.desk.specs.Table.{rows, total, tableOf, byFiles, byLines, answerOf, cellsAfter}
 use Rattle.desk.specs.Declare.{Declared}
+use Rattle.desk.specs.declared.line.Line.{Line}
+use Rattle.desk.specs.declared.account.LineOutcome.the-variants.{Refusal}
+use Rattle.desk.specs.declared.answer.LineFault.the-variants.{ActivityTooLarge, ReuseTooLarge}
 use Rattle.desk.specs.declared.answer.Outcome.{Outcome}
 use Rattle.desk.specs.declared.answer.Outcome.the-variants.{Accepted}
 
@@ -109,3 +114,8 @@ constant-table r q x y z p h =
     ∙ worked .3 in
     let e : at x 0 ≡ 300000 = ap (λ (t : List ℕ). at t 0) three in
     omega (arith, cell r x y p 0)
+
+-- one that looks at the reuse before the masses: where these are too large the refusal is theirs, whatever the reuse
+pub reuse-first : (b : List ℕ) (line : Line) → excessive line ≡ true → accountOf b line ≡ Refusal ReuseTooLarge → ⊥
+unfolding accountOf
+reuse-first b line large h = let e : Refusal ActivityTooLarge ≡ Refusal ReuseTooLarge = rw large at h in clash (cc)

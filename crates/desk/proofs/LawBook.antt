@@ -1,22 +1,24 @@
 -- What a good book says of its rows, and a right header of where rows and lines lie.
-use Prim.Native.Nat.{ℕ, zero, suc, _+_, _*_, _≤_, _<_}
+use Prim.Native.Nat.{ℕ, zero, suc, _+_, _*_, _-_, _≤_, _<_}
 use mathlib.Core.Bool.{Bool, true, false, _||_, not}
 use mathlib.Core.Path.{_≡_, sym, _∙_}
 use mathlib.Core.List.{List}
+use mathlib.Core.Logic.{⊎-elim}
+use native.Mathlib.Nat.{le-of-suc-le-suc, eq-or-lt-of-le}
 use native.Mathlib.Omega.{arith}
 use lib.Dec.{leb, eqb}
 use lib.ListN.{length, length-take, length-drop}
-use borrow.Author.Tests.{leb-true, eqb-true}
+use borrow.Author.Tests.{leb-true, ltb-true, eqb-true, ne-eqb}
 use Rattle.amounts.specs.Line.{wholeShare}
 use Rattle.little.specs.Read.{u32At}
 use Rattle.search.specs.Test.{all}
 use Rattle.search.proofs.LawTest.{either-way, and-left, and-right, all-at, every-at}
 use Rattle.desk.specs.House.{fileOk}
 use Rattle.desk.specs.Book.{bookHeader, bookFits, rowCount, techniqueCount, mostTechniques, techniqueSize, bookHeaderOk, techniqueBlock}
-use Rattle.desk.specs.Book.{techniqueEfficiency, techniqueOk, techniquesOk, rowStart, fieldsAt, fieldsOk, mostCoefficient, coefficientAt}
+use Rattle.desk.specs.Book.{techniqueCode, techniqueEfficiency, techniqueOk, techniquesOk, rowStart, fieldsAt, fieldsOk, mostCoefficient, coefficientAt}
 use Rattle.desk.specs.Book.{rowOk, rowsOk, bookOk}
 use Rattle.desk.specs.Sheet.{sheetHeader, sheetHeaderSize, sheetFits, sheetHeaderOk, lineSize, lineStart, lineCount}
-use Rattle.desk.specs.Inner.{RowIn, LineIn}
+use Rattle.desk.specs.Inner.{Listed, RowIn, LineIn}
 
 -- a loop over n that stops at a number where the test fails
 pub all-stopped : (p : ℕ → Bool) (n i : ℕ) → i < n → p i ≡ false → all n p ≡ false
@@ -106,13 +108,52 @@ module _ (b : List ℕ) (good : bookOk b ≡ true) where
   unfolding rowOk
   row-coefficient i l = leb-true (coefficientAt b (rowStart b i)) mostCoefficient (every-at _ (row-good i l) 1)
 
-  pub row-efficiency : (i j : ℕ) → i < rowCount b → let row = fieldsAt b (rowStart b i) in
-      j < row .techniques → techniqueEfficiency (techniqueBlock b) (row .first + j) ≤ wholeShare
-  unfolding rowOk techniquesOk techniqueOk
-  row-efficiency i j l m =
-      let row = fieldsAt b (rowStart b i) in
-      let t = techniqueBlock b in
-      let inside = eqb (row .techniques) 0 || leb (row .first + row .techniques) (techniqueCount b) in
-      let each = and-right inside (all (row .techniques) (techniqueOk t (row .first))) (every-at _ (row-good i l) 2) in
-      leb-true (techniqueEfficiency t (row .first + j)) wholeShare
-      (every-at _ (all-at (techniqueOk t (row .first)) (row .techniques) j each m) 1)
+  -- ---- a row's list of techniques
+
+  module _ (i : ℕ) (l : i < rowCount b) where
+    inside : (eqb (fieldsAt b (rowStart b i) .techniques) 0
+        || leb (fieldsAt b (rowStart b i) .first + fieldsAt b (rowStart b i) .techniques) (techniqueCount b)) ≡ true
+    unfolding rowOk techniquesOk
+    inside =
+        let row = fieldsAt b (rowStart b i) in
+        and-left _ (all (row .techniques) (techniqueOk (techniqueBlock b) (row .first))) (every-at _ (row-good i l) 2)
+
+    each : (j : ℕ) → j < fieldsAt b (rowStart b i) .techniques → techniqueOk (techniqueBlock b) (fieldsAt b (rowStart b i) .first) j ≡ true
+    unfolding rowOk techniquesOk
+    each j m =
+        let row = fieldsAt b (rowStart b i) in
+        let some = eqb (row .techniques) 0 || leb (row .first + row .techniques) (techniqueCount b) in
+        let test = techniqueOk (techniqueBlock b) (row .first) in
+        all-at test (row .techniques) j (and-right some (all (row .techniques) test) (every-at _ (row-good i l) 2)) m
+
+    pub row-efficiency : (j : ℕ) → j < fieldsAt b (rowStart b i) .techniques
+        → techniqueEfficiency (techniqueBlock b) (fieldsAt b (rowStart b i) .first + j) ≤ wholeShare
+    unfolding techniqueOk
+    row-efficiency j m = leb-true _ _ (every-at _ (each j m) 1)
+
+    code-rises : (j : ℕ) → suc j < fieldsAt b (rowStart b i) .techniques → let first = fieldsAt b (rowStart b i) .first in
+        techniqueCode (techniqueBlock b) (first + j) < techniqueCode (techniqueBlock b) (first + suc j)
+    unfolding techniqueOk
+    code-rises j m =
+        let back : suc j - 1 ≡ j = omega arith in
+        let above = rw (ne-eqb (suc j) 0 (λ q. omega arith), back) at (every-at _ (each (suc j) m) 2) in
+        ltb-true _ _ above
+
+    codes-rise : (j k : ℕ) → j < k → k < fieldsAt b (rowStart b i) .techniques → let first = fieldsAt b (rowStart b i) .first in
+        techniqueCode (techniqueBlock b) (first + j) < techniqueCode (techniqueBlock b) (first + k)
+    codes-rise j zero lt m = absurd (omega arith)
+    codes-rise j (suc k) lt m =
+        ⊎-elim (λ (q : j ≡ k). rw q (code-rises k m)) (λ (below : j < k). omega (arith, codes-rise j k below (omega arith), code-rises k m))
+        (eq-or-lt-of-le (le-of-suc-le-suc lt))
+
+    pub row-listed : Listed (techniqueBlock b) (fieldsAt b (rowStart b i) .first) (fieldsAt b (rowStart b i) .techniques)
+    unfolding bookOk
+    row-listed = record { lies = lies; rises = codes-rise }
+      where
+        lies : (j : ℕ) → j < fieldsAt b (rowStart b i) .techniques
+            → techniqueSize * (fieldsAt b (rowStart b i) .first + j) + techniqueSize ≤ length (techniqueBlock b)
+        lies j m =
+            let row = fieldsAt b (rowStart b i) in
+            let some : eqb (row .techniques) 0 ≡ false = ne-eqb (row .techniques) 0 (λ q. omega (arith, q)) in
+            let fits : row .first + row .techniques ≤ techniqueCount b = leb-true _ _ (rw some at inside) in
+            omega (arith, fits, block-size b (and-left (bookHeaderOk b) (rowsOk b) good))

@@ -2,22 +2,20 @@
 use Prim.Native.Nat.{ℕ, zero, suc, _+_, _*_, _-_, _≤_, _<_}
 use mathlib.Core.Path.{_≡_, refl, sym, ap, _∙_}
 use mathlib.Core.Bool.{Bool, true, false, _&&_, _||_, and-false, or-false}
-use mathlib.Core.List.{List, [], _∷_, map}
-use mathlib.Core.Logic.{_⊎_, inl, inr, ⊎-elim}
+use mathlib.Core.List.{List, [], _∷_}
+use mathlib.Core.Logic.{⊎-elim}
 use native.Mathlib.Nat.{le-of-suc-le-suc, eq-or-lt-of-le}
 use native.Mathlib.Omega.{arith}
 use borrow.Author.Tests.{ltb-true, ltb-false, eqb-true, eqb-false, lt-ltb, le-ltb, eq-eqb, ne-eqb}
 use lib.Dec.{ltb, eqb}
-use Rattle.little.specs.Read.{byteRange, u16Range, byteAt, u16At}
-use Rattle.search.specs.First.{first}
+use Rattle.little.specs.Read.{u16Range}
+use Rattle.search.specs.Cut.{Falls}
 use Rattle.search.specs.Test.{every}
-use Rattle.search.specs.declared.found.Found.the-variants.{At, Nothing}
 use Rattle.search.proofs.LawTest.{either-way, and-left, and-right, every-at}
-use Rattle.search.proofs.LawFirst.{first-start, first-here, first-rest}
-use Rattle.desk.specs.Key.{keyFrom, keyFields, before, keyLess, keySame}
+use Rattle.desk.specs.Key.{keyFields, before, keyLess, keySame}
 use Rattle.desk.specs.Book.{rowCount, rowStart, keyAt, rises, rowOk, bookOk}
 use Rattle.desk.specs.Row.{rowHas}
-use Rattle.desk.specs.Inner.{rowBefore, Cut, Packs, SmallKey, keySmall, packedLess, rowFits}
+use Rattle.desk.specs.Inner.{rowBefore, Packs, packedLess, packedSame, rowFits}
 use Rattle.desk.specs.declared.key.Key.{Key}
 use Rattle.desk.specs.declared.key.Packed.{Packed}
 use Rattle.desk.proofs.LawBook.{row-good}
@@ -140,6 +138,39 @@ packed-is k l p q K L =
     ∙ digit x (k .material) y (l .material) four (K .material) (L .material)
     ∙ digit (k .industry) (k .product) (l .industry) (l .product) three (K .product) (L .product))
 
+-- two numbers to the base 65536 are the same where their heads and their last digits are
+same-digit : (x y a b : ℕ) → y < u16Range → b < u16Range → eqb (x * u16Range + y) (a * u16Range + b) ≡ (eqb x a && eqb y b)
+same-digit x y a b hy hb =
+    let p = x * u16Range + y in
+    let q = a * u16Range + b in
+    either-way (eqb x a)
+    (λ e. either-way (eqb y b)
+    (λ f. rw (e, f, eq-eqb p q (omega (arith, eqb-true x a e, eqb-true y b f))))
+    (λ f. rw (e, f, ne-eqb p q (λ z. absurd (eqb-false y b f (omega (arith, eqb-true x a e)))))))
+    (λ e. rw (e, ne-eqb p q (λ z. absurd (eqb-false x a e (omega arith)))))
+
+regroup : (a b c d : Bool) → (a && (b && c && d)) ≡ (a && b && c && d)
+regroup true b c d = refl
+regroup false b c d = refl
+
+pub packed-same-is : (k l : Key) (p q : Packed) → Packs k p → Packs l q → packedSame p q ≡ keySame k l
+unfolding keySame every
+packed-same-is k l p q K L =
+    let x = k .industry * u16Range + k .product in
+    let y = l .industry * u16Range + l .product in
+    rw (
+      K .place,
+      K .rest,
+      L .place,
+      L .rest,
+      same-digit (x * u16Range + k .material) (k .process) (y * u16Range + l .material) (l .process) (K .process) (L .process),
+      same-digit x (k .material) y (l .material) (K .material) (L .material),
+      same-digit (k .industry) (k .product) (l .industry) (l .product) (K .product) (L .product),
+      same-digit (k .scale * u16Range + k .medium) (k .pollutant) (l .scale * u16Range + l .medium) (l .pollutant) (K .pollutant) (L .pollutant),
+      same-digit (k .scale) (k .medium) (l .scale) (l .medium) (K .medium) (L .medium),
+    )
+    (regroup (eqb (k .industry) (l .industry) && eqb (k .product) (l .product) && eqb (k .material) (l .material) && eqb (k .process) (l .process)) _ _ _)
+
 -- a row's test by itself and by the key that was kept of the row before it
 pub row-by-kept : (b t : List ℕ) (i : ℕ) (last key : Packed) → (0 < i → Packs (keyAt b (rowStart b (i - 1))) last) → Packs (keyAt b (rowStart b i)) key
     → (rowFits b t (rowStart b i) && (eqb i 0 || packedLess last key)) ≡ rowOk b t i
@@ -147,61 +178,6 @@ unfolding every rowOk rowFits rises
 row-by-kept b t zero last key L K = refl
 row-by-kept b t (suc i) last key L K =
     rw (ne-eqb (suc i) 0 (λ q. omega arith), packed-is (keyAt b (rowStart b (suc i - 1))) (keyAt b (rowStart b (suc i))) last key (L (omega arith)) K)
-
--- ---- keys that can be packed
-
-pub small-key : (k : Key) → keySmall k ≡ true → SmallKey k
-unfolding keySmall
-small-key k h =
-    record {
-      industry = ltb-true (k .industry) u16Range (every-at _ h 0);
-      product = ltb-true (k .product) u16Range (every-at _ h 1);
-      material = ltb-true (k .material) u16Range (every-at _ h 2);
-      process = ltb-true (k .process) u16Range (every-at _ h 3);
-      scale = ltb-true (k .scale) u16Range (every-at _ h 4);
-      medium = ltb-true (k .medium) u16Range (every-at _ h 5);
-      pollutant = ltb-true (k .pollutant) u16Range (every-at _ h 6);
-    }
-
-small-by : (x y : Key) → keyFields x ≡ keyFields y → keySmall x ≡ keySmall y
-unfolding keySmall
-small-by x y e = ap (λ (l : List ℕ). every (map (λ n. ltb n u16Range) l)) e
-
-module _ (b : List ℕ) (bytes : (i : ℕ) → byteAt b i < byteRange) where
-  code-small : (at : ℕ) → ltb (u16At b at) u16Range ≡ true
-  unfolding u16At
-  code-small at = lt-ltb (byteAt b at + byteRange * byteAt b (at + 1)) u16Range (omega (arith, bytes at, bytes (at + 1)))
-
-  byte-small : (at : ℕ) → ltb (byteAt b at) u16Range ≡ true
-  byte-small at = lt-ltb (byteAt b at) u16Range (omega (arith, bytes at))
-
-  row-small : (at : ℕ) → keySmall (keyAt b at) ≡ true
-  unfolding keySmall every keyFrom
-  row-small at =
-      rw (
-        code-small at,
-        code-small (at + 2),
-        code-small (at + 4),
-        code-small (at + 6),
-        code-small (at + 8),
-        byte-small (at + 10),
-        byte-small (at + 11),
-      )
-
-  large-has : (k : Key) (i : ℕ) → keySmall k ≡ false → rowHas b k i ≡ false
-  unfolding rowHas
-  large-has k i h =
-      let row = keyAt b (rowStart b i) in
-      either-way (keySame row k)
-      (λ s. let z : true ≡ false = sym (row-small (rowStart b i)) ∙ small-by row k (same-fields row k s) ∙ h in cc)
-      (λ s. s)
-
-  pub large-none : (k : Key) (n : ℕ) → keySmall k ≡ false → Nothing ≡ first n (rowHas b k)
-  large-none k n h = sym (first-rest (rowHas b k) 0 n (first-start (rowHas b k)) (omega arith) (λ i l m. large-has k i h))
-
--- a cut whose ends have met
-pub cut-met : (b : List ℕ) (k : Key) (low high : ℕ) → Cut b k low high → high ≤ low → Cut b k low low
-cut-met b k low high C l = let e : high ≡ low = omega (arith, C .order) in rw e at C
 
 -- ---- the rows of a good book
 
@@ -220,53 +196,17 @@ module _ (b : List ℕ) (good : bookOk b ≡ true) where
       (λ (lt : i < j). less-trans (keyAt b (rowStart b i)) (keyAt b (rowStart b j)) (keyAt b (rowStart b (suc j))) (rows-rise i j lt (omega arith)) (row-rises j m))
       (eq-or-lt-of-le (le-of-suc-le-suc l))
 
-  -- ---- halving
-
-  pub cut-start : (k : Key) → Cut b k 0 (rowCount b)
-  cut-start k = record { order = omega arith; within = omega arith; below = λ i l. absurd (omega arith); above = λ i l m. absurd (omega arith) }
-
-  pub cut-low : (k : Key) (low high m : ℕ) → Cut b k low high → low ≤ m → m < high → rowBefore b k m ≡ true → Cut b k (m + 1) high
+  -- rows that stand before a key are those before some row
+  pub rows-fall : (k : Key) → Falls (rowCount b) (rowBefore b k)
   unfolding rowBefore
-  cut-low k low high m C l h e =
-      record {
-        order = omega arith;
-        within = C .within;
-        below = λ i q. ⊎-elim (λ (s : i ≡ m). rw s e)
-            (λ (lt : i < m). less-trans (keyAt b (rowStart b i)) (keyAt b (rowStart b m)) k (rows-rise i m lt (omega (arith, C .within))) e)
-            (eq-or-lt-of-le (omega arith));
-        above = C .above;
-      }
+  rows-fall k i j lt m e = less-trans (keyAt b (rowStart b i)) (keyAt b (rowStart b j)) k (rows-rise i j lt m) e
 
-  pub cut-high : (k : Key) (low high m : ℕ) → Cut b k low high → low ≤ m → m < high → rowBefore b k m ≡ false → Cut b k low m
-  unfolding rowBefore
-  cut-high k low high m C l h e = record { order = l; within = omega (arith, C .within); below = C .below; above = λ i q s. later i (eq-or-lt-of-le q) s }
-    where
-      earlier : (i : ℕ) → m < i → i < rowCount b → keyLess (keyAt b (rowStart b i)) k ≡ true → keyLess (keyAt b (rowStart b m)) k ≡ true
-      earlier i lt s t = less-trans (keyAt b (rowStart b m)) (keyAt b (rowStart b i)) k (rows-rise m i lt s) t
-
-      later : (i : ℕ) → (m ≡ i) ⊎ (m < i) → i < rowCount b → rowBefore b k i ≡ false
-      later i (inl q) s = rw (← q) e
-      later i (inr lt) s =
-          either-way (keyLess (keyAt b (rowStart b i)) k)
-          (λ t. let z : true ≡ false = sym (earlier i lt s t) ∙ e in cc)
-          (λ t. t)
-
-  -- ---- what the cut finds
-
-  nothing-below : (k : Key) (r : ℕ) → Cut b k r r → first r (rowHas b k) ≡ Nothing
+  -- a row that stands before a key has not that key
+  pub before-other : (k : Key) (i : ℕ) → rowBefore b k i ≡ true → rowHas b k i ≡ false
   unfolding rowBefore rowHas
-  nothing-below k r C = first-rest (rowHas b k) 0 r (first-start (rowHas b k)) (omega arith) (λ i l m. less-not-same (keyAt b (rowStart b i)) k (C .below i m))
+  before-other k i e = less-not-same (keyAt b (rowStart b i)) k e
 
-  pub cut-here : (k : Key) (r : ℕ) → Cut b k r r → r < rowCount b → rowHas b k r ≡ true → At r ≡ first (rowCount b) (rowHas b k)
-  cut-here k r C l e = first-here (rowHas b k) r (rowCount b) (nothing-below k r C) e l
-
-  pub cut-other : (k : Key) (r : ℕ) → Cut b k r r → r < rowCount b → rowHas b k r ≡ false → Nothing ≡ first (rowCount b) (rowHas b k)
+  -- nor has a row past one that does not stand before it
+  pub past-other : (k : Key) (r : ℕ) → rowBefore b k r ≡ false → (i : ℕ) → r < i → i < rowCount b → rowHas b k i ≡ false
   unfolding rowBefore rowHas
-  cut-other k r C l e = sym (first-rest (rowHas b k) r (rowCount b) (nothing-below k r C) (C .within) (λ i q m. at i (eq-or-lt-of-le q) m))
-    where
-      at : (i : ℕ) → (r ≡ i) ⊎ (r < i) → i < rowCount b → rowHas b k i ≡ false
-      at i (inl q) m = rw (← q) e
-      at i (inr lt) m = apart (keyAt b (rowStart b r)) (keyAt b (rowStart b i)) k (rows-rise r i lt m) (C .above r (omega arith) l)
-
-  pub cut-none : (k : Key) (r : ℕ) → Cut b k r r → rowCount b ≤ r → Nothing ≡ first (rowCount b) (rowHas b k)
-  cut-none k r C l = let q : r ≡ rowCount b = omega (arith, C .within) in sym (rw q at (nothing-below k r C))
+  past-other k r e i lt m = apart (keyAt b (rowStart b r)) (keyAt b (rowStart b i)) k (rows-rise r i lt m) e

@@ -16,7 +16,7 @@ use Rattle.desk.specs.Row.{rowHas, rowIndex, rowAt, rowFrom, rowOf}
 use Rattle.desk.specs.declared.key.Key.{Key}
 use Rattle.desk.specs.declared.row.Row.{Row}
 use Rattle.desk.specs.declared.row.RowSearch.the-variants.{Hit}
-use Rattle.desk.proofs.LawBook.{row-coefficient, row-efficiency}
+use Rattle.desk.proofs.LawBook.{row-coefficient, row-efficiency, row-listed}
 
 pub row-below : (b : List ℕ) (k : Key) (i : ℕ) → rowIndex b k ≡ At i → i < rowCount b
 unfolding rowIndex
@@ -28,7 +28,7 @@ row-below b k i h =
 
 good-at : (b : List ℕ) → bookOk b ≡ true → (i : ℕ) → i < rowCount b → GoodRow (techniqueBlock b) (rowAt b i)
 unfolding rowAt
-good-at b good i l = record { coefficient = row-coefficient b good i l; efficiency = λ j m. row-efficiency b good i j l m }
+good-at b good i l = record { coefficient = row-coefficient b good i l; listed = row-listed b good i l; efficiency = row-efficiency b good i l }
 
 good-from : (b : List ℕ) → bookOk b ≡ true → (f : Found) → ((i : ℕ) → f ≡ At i → i < rowCount b) → (row : Row) → rowFrom b f ≡ Hit row → GoodRow (techniqueBlock b) row
 good-from b good (At i) below row h = let e : rowAt b i ≡ row = cc in rw e at (good-at b good i (below i refl))

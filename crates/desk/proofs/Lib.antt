@@ -3,6 +3,7 @@ pub mod LawColumns
 pub mod LawRun
 pub mod LawOrder
 pub mod LawRow
+pub mod LawTechnique
 pub mod LawReading
 pub mod LawAccount
 pub mod LawTable

@@ -7,13 +7,16 @@ use lib.Dec.{leb, ltb, eqb}
 use lib.ListN.{length, take, drop}
 use Rattle.amounts.specs.Line.{wholeShare}
 use Rattle.little.specs.Read.{u16Range}
+use Rattle.search.specs.Cut.{Cut}
 use Rattle.search.specs.Test.{every}
 use Rattle.settle.specs.Shown.{at}
 use Rattle.settle.specs.Table.{Good}
 use Rattle.settle.specs.Step.{shownTable}
 use Rattle.desk.specs.Key.{keyLess}
-use Rattle.desk.specs.Book.{bookHeader, rowCount, rowStart, keyAt, fieldsAt, techniqueCount, techniqueEfficiency, techniquesOk}
+use Rattle.desk.specs.Book.{bookHeader, rowCount, rowStart, keyAt, fieldsAt, techniqueCount, techniqueSize, techniqueCode}
+use Rattle.desk.specs.Book.{techniqueEfficiency, techniquesOk}
 use Rattle.desk.specs.Book.{fieldsOk, coefficientAt, mostCoefficient, bookOk}
+use Rattle.desk.specs.Row.{rowHas}
 use Rattle.desk.specs.Sheet.{lineCount, lineSize, sheetOk, mostLines, lineStart}
 use Rattle.desk.specs.Line.{mostKilograms}
 use Rattle.desk.specs.Lent.{Lent}
@@ -79,20 +82,15 @@ pub record SmallKey (k : Key) : Type 0 where
   pub medium : k .medium < u16Range
   pub pollutant : k .pollutant < u16Range
 
-unfoldable pub keySmall : Key → Bool
-keySmall k =
-    every
-    (ltb (k .industry) u16Range
-    ∷ ltb (k .product) u16Range
-    ∷ ltb (k .material) u16Range
-    ∷ ltb (k .process) u16Range
-    ∷ ltb (k .scale) u16Range
-    ∷ ltb (k .medium) u16Range
-    ∷ ltb (k .pollutant) u16Range
-    ∷ [])
+pub record ReadsKey (r meant : Key) : Type 0 where
+  pub eq : r ≡ meant
+  pub small : SmallKey r
 
 abbrev pub packedLess : Packed → Packed → Bool
 packedLess a b = ltb (a .place) (b .place) || eqb (a .place) (b .place) && ltb (a .rest) (b .rest)
+
+abbrev pub packedSame : Packed → Packed → Bool
+packedSame a b = eqb (a .place) (b .place) && eqb (a .rest) (b .rest)
 
 -- ---- a row by itself
 
@@ -111,19 +109,27 @@ rowFits b t at =
 unfoldable pub rowBefore : (b : List ℕ) (k : Key) (i : ℕ) → Bool
 rowBefore b k i = keyLess (keyAt b (rowStart b i)) k
 
--- the rows below `low` stand before the key, and none from `high` on does
-pub record Cut (b : List ℕ) (k : Key) (low high : ℕ) : Type 0 where
-  pub order : low ≤ high
-  pub within : high ≤ rowCount b
-  pub below : (i : ℕ) → i < low → rowBefore b k i ≡ true
-  pub above : (i : ℕ) → high ≤ i → i < rowCount b → rowBefore b k i ≡ false
-
--- the same for the key that is packed so
+-- the answer r of a test of row i for the key that is packed so: whether the row stands before it, and whether the row has it
 abbrev pub PackedBefore : (b : List ℕ) (p : Packed) (i : ℕ) (r : Bool) → Type 0
 PackedBefore b p i r = (k : Key) → Packs k p → r ≡ rowBefore b k i
 
+abbrev pub PackedHas : (b : List ℕ) (p : Packed) (i : ℕ) (r : Bool) → Type 0
+PackedHas b p i r = (k : Key) → Packs k p → r ≡ rowHas b k i
+
+-- the rows below `low` stand before that key, and none from `high` on does
 abbrev pub PackedCut : (b : List ℕ) (p : Packed) (low high : ℕ) → Type 0
-PackedCut b p low high = (k : Key) → Packs k p → Cut b k low high
+PackedCut b p low high = (k : Key) → Packs k p → Cut (rowCount b) (rowBefore b k) low high
+
+-- ---- the technique search
+
+-- technique j of the list that begins at `from` has a lower code
+unfoldable pub codeBelow : (t : List ℕ) (from code j : ℕ) → Bool
+codeBelow t from code j = ltb (techniqueCode t (from + j)) code
+
+-- the list lies in the block, and its codes rise
+pub record Listed (t : List ℕ) (from count : ℕ) : Type 0 where
+  pub lies : (j : ℕ) → j < count → techniqueSize * (from + j) + techniqueSize ≤ length t
+  pub rises : (i j : ℕ) → i < j → j < count → techniqueCode t (from + i) < techniqueCode t (from + j)
 
 -- a row's list lies below 2 ^ 17
 abbrev pub SmallRow : Row → Type 0
@@ -143,6 +149,10 @@ pub record FindsRow (r meant : RowSearch) : Type 0 where
 
 -- ---- a line
 
+pub record ReadsLine (r meant : Line) : Type 0 where
+  pub eq : r ≡ meant
+  pub small : SmallKey (r .key)
+
 -- what rule 4 leaves
 pub record Moderate (line : Line) : Type 0 where
   pub product : line .product ≤ mostKilograms
@@ -156,6 +166,7 @@ pub record SmallProduct (row : Row) (line : Line) : Type 0 where
 -- a row of a good book whose technique block is t
 pub record GoodRow (t : List ℕ) (row : Row) : Type 0 where
   pub coefficient : row .coefficient ≤ mostCoefficient
+  pub listed : Listed t (row .first) (row .techniques)
   pub efficiency : (j : ℕ) → j < row .techniques → techniqueEfficiency t (row .first + j) ≤ wholeShare
 
 -- what rules 1, 4, 5 and 6 leave
@@ -168,6 +179,7 @@ pub record Treatable (t : List ℕ) (row : Row) (line : Line) : Type 0 where
 -- what rules 1, 4 and 5 leave
 pub record Accountable (b : List ℕ) (line : Line) : Type 0 where
   pub book : bookOk b ≡ true
+  pub key : SmallKey (line .key)
   pub activity : Moderate line
   pub reuse : line .reuse ≤ wholeShare
 

@@ -8,7 +8,7 @@ ghost use Rattle.desk.specs.Reading.{shareOf};
 ghost use Rattle.desk.specs.Row.{rowOf};
 ghost use Rattle.desk.specs.Lent.{lent};
 ghost use Rattle.desk.specs.Account.{treated, treatmentOf, generatedOf, byTreatment, byRow, accountOf, lineOutcome};
-ghost use Rattle.desk.specs.Inner.{SmallRow, SmallProduct, Treatable, Accountable, LineReady};
+ghost use Rattle.desk.specs.Inner.{Listed, SmallKey, SmallProduct, SmallRow, Treatable, Accountable, LineReady};
 use super::answer::LineFault;
 use super::book::technique_block;
 use super::cells::TableRow;
@@ -54,7 +54,7 @@ fn treated(efficiency: usize, reading: Reading) -> Treatment
 
 // Technique 0 is direct discharge, whatever the reading.
 fn treatment_of(t: &[u8], row: Row, technique: usize, reading: Reading) -> Treatment
-    requires { ⌜ SmallRow row ⌝ }
+    requires { ⌜ SmallRow row × Listed (now t) (row .first) (row .techniques) ⌝ }
     ensures { λ r. ⌜ r ≡ treatmentOf (now (t .entry)) row technique reading ⌝ }
 {
     if technique == 0 {
@@ -136,8 +136,8 @@ fn by_row(b: &[u8], line: Line) -> LineOutcome
     }
 }
 
-pub(crate) fn account(b: &[u8], line: Line) -> LineOutcome
-    requires { ⌜ bookOk (now b) ≡ true ⌝ }
+fn account(b: &[u8], line: Line) -> LineOutcome
+    requires { ⌜ (bookOk (now b) ≡ true) × SmallKey (line .key) ⌝ }
     ensures { λ r. ⌜ r ≡ accountOf (now (b .entry)) line ⌝ }
 {
     let excessive = (MOST_KILOGRAMS < line.product) | (MOST_KILOGRAMS < line.material);

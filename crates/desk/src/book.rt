@@ -6,16 +6,16 @@ ghost use lib.ListN.{length};
 ghost use Rattle.little.specs.Read.{Reads, u32Range};
 ghost use Rattle.desk.specs.Book.{bookHeader, rowCount, techniqueCount, bookHeaderOk, techniqueBlock};
 ghost use Rattle.desk.specs.Book.{rowStart, keyAt, fieldsOk, coefficientAt, rowsOk, bookOk};
-ghost use Rattle.desk.specs.Inner.{counted, farthest, RowIn, Packs, rowFits};
+ghost use Rattle.desk.specs.Inner.{counted, farthest, RowIn, Packs, ReadsKey, rowFits};
 ghost use Rattle.desk.specs.InnerRun.{Runs};
 use super::house::file_ok;
 use super::inside::byte_in;
 use super::inside::u16_in;
 use super::inside::u32_in;
-use super::key::CODE_RANGE;
 use super::key::Key;
 use super::key::Packed;
 use super::key::key_from;
+use super::key::pack;
 use super::key::packed_less;
 use super::run::fill_runs;
 use super::run::list_ok;
@@ -90,41 +90,31 @@ pub(crate) fn row_start(b: &[u8], i: usize) -> usize
     row_offset(b) + ROW_SIZE * i
 }
 
-pub(crate) fn key_at(b: &[u8], at: usize) -> Key
+fn key_at(b: &[u8], at: usize) -> Key
     requires { ⌜ RowIn (now b) at ⌝ }
-    ensures { λ r. ⌜ r ≡ keyAt (now (b .entry)) at ⌝ }
+    ensures { λ r. ⌜ ReadsKey r (keyAt (now (b .entry)) at) ⌝ }
 {
-    key_from(b, at, byte_in(b, at + 10), byte_in(b, at + 11))
+    key_from(b, at, byte_in(b, at, 10), byte_in(b, at, 11))
 }
 
 pub(crate) fn packed_at(b: &[u8], at: usize) -> Packed
     requires { ⌜ RowIn (now b) at ⌝ }
     ensures { λ r. ⌜ Packs (keyAt (now (b .entry)) at) r ⌝ }
 {
-    let industry = u16_in(b, at);
-    let product = u16_in(b, at + 2);
-    let material = u16_in(b, at + 4);
-    let process = u16_in(b, at + 6);
-    let scale = u16_in(b, at + 8);
-    let medium = byte_in(b, at + 10);
-    let pollutant = byte_in(b, at + 11);
-    Packed {
-        place: ((industry * CODE_RANGE + product) * CODE_RANGE + material) * CODE_RANGE + process,
-        rest: (scale * CODE_RANGE + medium) * CODE_RANGE + pollutant,
-    }
+    pack(key_at(b, at))
 }
 
 fn fields_ok(b: &[u8], at: usize) -> bool
     requires { ⌜ RowIn (now b) at ⌝ }
     ensures { λ r. ⌜ r ≡ fieldsOk (now (b .entry)) at ⌝ }
 {
-    let medium = byte_in(b, at + 10);
-    let pollutant = byte_in(b, at + 11);
-    let basis = byte_in(b, at + 12);
-    let unit = byte_in(b, at + 13);
-    let places = byte_in(b, at + 14);
-    let rule = byte_in(b, at + 15);
-    let techniques = u16_in(b, at + 22);
+    let medium = byte_in(b, at, 10);
+    let pollutant = byte_in(b, at, 11);
+    let basis = byte_in(b, at, 12);
+    let unit = byte_in(b, at, 13);
+    let places = byte_in(b, at, 14);
+    let rule = byte_in(b, at, 15);
+    let techniques = u16_in(b, at, 22);
     (1 <= medium)
         & (medium <= 3)
         & (pollutant != 0)
@@ -160,9 +150,9 @@ pub(crate) fn coefficient_at(b: &[u8], at: usize) -> usize
     requires { ⌜ RowIn (now b) at × (fieldsOk (now b) at ≡ true) ⌝ }
     ensures { λ r. ⌜ r ≡ coefficientAt (now (b .entry)) at ⌝ }
 {
-    let unit = byte_in(b, at + 13);
-    let places = byte_in(b, at + 14);
-    let digits = u32_in(b, at + 16);
+    let unit = byte_in(b, at, 13);
+    let places = byte_in(b, at, 14);
+    let digits = u32_in(b, at, 16);
     digits * ten_to(3 * unit - 1 - places)
 }
 
@@ -172,8 +162,8 @@ fn row_fits(b: &[u8], runs: &[u16], size: usize, at: usize) -> bool
     ensures { λ r. ⌜ r ≡ rowFits (now (b .entry)) (techniqueBlock (now (b .entry))) at ⌝ }
 {
     if fields_ok(b, at) {
-        let first = u16_in(b, at + 20);
-        let techniques = u16_in(b, at + 22);
+        let first = u16_in(b, at, 20);
+        let techniques = u16_in(b, at, 22);
         (coefficient_at(b, at) <= MOST_COEFFICIENT) & list_ok(runs, size, first, techniques)
     } else {
         false

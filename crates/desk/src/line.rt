@@ -2,7 +2,7 @@
 ghost use mathlib.Core.Path.{_≡_};
 ghost use Prim.Native.Nat.{_≤_, _+_};
 ghost use lib.ListN.{length};
-ghost use Rattle.desk.specs.Inner.{LineIn, LineThere};
+ghost use Rattle.desk.specs.Inner.{LineIn, LineThere, ReadsLine};
 ghost use Rattle.desk.specs.Line.{floatAt, readingAt, lineOf};
 use super::inside::byte_in;
 use super::inside::u16_in;
@@ -30,29 +30,29 @@ pub struct Line {
     pub reading: Reading,
 }
 
-fn float_at(s: &[u8], at: usize) -> f64
-    requires { ⌜ at + 8 ≤ length (now s) ⌝ }
-    ensures { λ r. ⌜ r ≡ floatAt (now (s .entry)) at ⌝ }
+fn float_at(s: &[u8], at: usize, field: usize) -> f64
+    requires { ⌜ at + field + 8 ≤ length (now s) ⌝ }
+    ensures { λ r. ⌜ r ≡ floatAt (now (s .entry)) (at + field) ⌝ }
 {
-    from_bits(u64_in(s, at))
+    from_bits(u64_in(s, at, field))
 }
 
 fn reading_at(s: &[u8], at: usize) -> Reading
     requires { ⌜ LineIn (now s) at ⌝ }
     ensures { λ r. ⌜ r ≡ readingAt (now (s .entry)) at ⌝ }
 {
-    let kind = byte_in(s, at + 14);
+    let kind = byte_in(s, at, 14);
     if kind == 1 {
         return Reading::Hours {
-            run: float_at(s, at + 32),
-            production: float_at(s, at + 40),
+            run: float_at(s, at, 32),
+            production: float_at(s, at, 40),
         };
     }
     if kind == 2 {
         return Reading::Energy(EnergyReading {
-            kwh: float_at(s, at + 32),
-            kw: float_at(s, at + 40),
-            hours: float_at(s, at + 48),
+            kwh: float_at(s, at, 32),
+            kw: float_at(s, at, 40),
+            hours: float_at(s, at, 48),
         });
     }
     if kind == 3 {
@@ -63,15 +63,15 @@ fn reading_at(s: &[u8], at: usize) -> Reading
 
 pub(crate) fn line_of(s: &[u8], i: usize) -> Line
     requires { ⌜ LineThere (now s) i ⌝ }
-    ensures { λ r. ⌜ r ≡ lineOf (now (s .entry)) i ⌝ }
+    ensures { λ r. ⌜ ReadsLine r (lineOf (now (s .entry)) i) ⌝ }
 {
     let at = line_start(s, i);
     Line {
-        key: key_from(s, at, byte_in(s, 6), byte_in(s, 7)),
-        technique: u16_in(s, at + 10),
-        reuse: u16_in(s, at + 12),
-        product: u64_in(s, at + 16),
-        material: u64_in(s, at + 24),
+        key: key_from(s, at, byte_in(s, 0, 6), byte_in(s, 0, 7)),
+        technique: u16_in(s, at, 10),
+        reuse: u16_in(s, at, 12),
+        product: u64_in(s, at, 16),
+        material: u64_in(s, at, 24),
         reading: reading_at(s, at),
     }
 }

@@ -4,10 +4,9 @@ ghost use mathlib.Core.Bool.{true};
 ghost use Prim.Native.Nat.{_<_};
 ghost use Rattle.search.specs.First.{Finds, first};
 ghost use Rattle.desk.specs.Book.{rowCount, rowStart, fieldsOk, bookOk};
-ghost use Rattle.desk.specs.Inner.{counted, RowIn, PackedBefore, PackedCut, ReadsRow, FindsRow};
+ghost use Rattle.desk.specs.Inner.{counted, RowIn, SmallKey, PackedBefore, PackedCut, PackedHas, ReadsRow, FindsRow};
 ghost use Rattle.desk.specs.Row.{rowHas, rowIndex, rowAt, rowOf};
 use super::book::coefficient_at;
-use super::book::key_at;
 use super::book::packed_at;
 use super::book::row_count;
 use super::book::row_start;
@@ -16,10 +15,9 @@ use super::inside::u16_in;
 use super::key::Key;
 use super::key::Packed;
 use super::key::all_scales;
-use super::key::key_same;
-use super::key::key_small;
 use super::key::pack;
 use super::key::packed_less;
+use super::key::packed_same;
 use search::found::Found;
 
 // What a line is accounted for by: units per kilogram, and the list of techniques in the block.
@@ -36,11 +34,11 @@ pub enum RowSearch {
     Miss,
 }
 
-fn row_has(b: &[u8], k: Key, i: usize) -> bool
+fn row_has(b: &[u8], wanted: Packed, i: usize) -> bool
     requires { ⌜ (i < counted) × RowIn (now b) (rowStart (now b) i) ⌝ }
-    ensures { λ r. ⌜ r ≡ rowHas (now (b .entry)) k i ⌝ }
+    ensures { λ r. ⌜ PackedHas (now (b .entry)) wanted i r ⌝ }
 {
-    key_same(key_at(b, row_start(b, i)), k)
+    packed_same(packed_at(b, row_start(b, i)), wanted)
 }
 
 fn row_before(b: &[u8], wanted: Packed, i: usize) -> bool
@@ -68,24 +66,22 @@ fn rows_before(b: &[u8], wanted: Packed) -> usize
     low
 }
 
-// A row's fields are u16 or less, so that no row has a key with a larger one.
 fn index_of(b: &[u8], k: Key) -> Found
-    requires { ⌜ bookOk (now b) ≡ true ⌝ }
+    requires { ⌜ (bookOk (now b) ≡ true) × SmallKey k ⌝ }
     ensures { λ r. ⌜ Finds r (first (rowCount (now (b .entry))) (rowHas (now (b .entry)) k)) counted ⌝ }
 {
-    if key_small(k) {
-        let i = rows_before(b, pack(k));
-        if i < row_count(b) {
-            if row_has(b, k, i) {
-                return Found::At(i);
-            }
+    let wanted = pack(k);
+    let i = rows_before(b, wanted);
+    if i < row_count(b) {
+        if row_has(b, wanted, i) {
+            return Found::At(i);
         }
     }
     Found::Nothing
 }
 
-pub(crate) fn row_index(b: &[u8], k: Key) -> Found
-    requires { ⌜ bookOk (now b) ≡ true ⌝ }
+fn row_index(b: &[u8], k: Key) -> Found
+    requires { ⌜ (bookOk (now b) ≡ true) × SmallKey k ⌝ }
     ensures { λ r. ⌜ Finds r (rowIndex (now (b .entry)) k) counted ⌝ }
 {
     let any = all_scales(k);
@@ -102,15 +98,15 @@ fn row_at(b: &[u8], i: usize) -> Row
     let at = row_start(b, i);
     Row {
         coefficient: coefficient_at(b, at) as u64,
-        basis: byte_in(b, at + 12),
-        rule: byte_in(b, at + 15),
-        first: u16_in(b, at + 20),
-        techniques: u16_in(b, at + 22),
+        basis: byte_in(b, at, 12),
+        rule: byte_in(b, at, 15),
+        first: u16_in(b, at, 20),
+        techniques: u16_in(b, at, 22),
     }
 }
 
 pub(crate) fn row_of(b: &[u8], k: Key) -> RowSearch
-    requires { ⌜ bookOk (now b) ≡ true ⌝ }
+    requires { ⌜ (bookOk (now b) ≡ true) × SmallKey k ⌝ }
     ensures { λ r. ⌜ FindsRow r (rowOf (now (b .entry)) k) ⌝ }
 {
     match row_index(b, k) {

@@ -57,7 +57,7 @@ fn line_ok(s: &[u8], i: usize) -> bool
     ensures { λ r. ⌜ r ≡ lineOk (now (s .entry)) i ⌝ }
 {
     let at = line_start(s, i);
-    (byte_in(s, at + 14) <= 3) & (byte_in(s, at + 15) == 0) & (u64_in(s, at + 56) == 0)
+    (byte_in(s, at, 14) <= 3) & (byte_in(s, at, 15) == 0) & (u64_in(s, at, 56) == 0)
 }
 
 fn lines_ok(s: &[u8]) -> bool

@@ -1,2 +1,3 @@
 pub mod Test
+pub mod Cut
 pub mod First

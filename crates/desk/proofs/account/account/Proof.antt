@@ -1,5 +1,4 @@
 -- Rules 4 and 5 by their own tests; what they leave is what the rest of the account asks.
-use borrow.Author.Needs.{needs}
 use borrow.Author.Tests.{lt-ltb, le-ltb}
 use Rattle.desk.specs.Account.{accountOf}
 use Rattle.desk.proofs.LawAccount.{moderate}
@@ -15,7 +14,7 @@ unfolding accountOf
 returns-2 c = rw (c .before .before .if1 .left, lt-ltb _ _ (c .if2 .taken))
 
 by-row-requires : tie.Need-by-row-requires
-by-row-requires c κs = record { book = c .before .before .before .before .before .before .pre; activity = moderate _ (c .before .before .if1 .left); reuse = c .if2 .left }
+by-row-requires c κs = record { book = c .before .before .before .before .before .before .pre .0; key = c .before .before .before .before .before .before .pre .1; activity = moderate _ (c .before .before .if1 .left); reuse = c .if2 .left }
 
 returns-3 : tie.Need-returns-3
 unfolding accountOf

@@ -5,6 +5,9 @@ use Rattle.desk.proofs.LawRow.{hit-good}
 use Rattle.desk.proofs.account.by_row.Statement.{statement}
 use Rattle.desk.proofs.account.by_row.Tie as tie
 
+row-of-requires : tie.Need-row-of-requires
+row-of-requires c κs = (c .before .before .pre .book, c .before .before .pre .key)
+
 by-treatment-requires : tie.Need-by-treatment-requires
 by-treatment-requires c κs =
     let able = c .before .before .before .before .before .before .before .pre in
@@ -25,5 +28,4 @@ returns-2 c = rw (← c .before .before .before .before .before .row-of .ensures
 pub by-row-spec : {M : Type 1} → statement M
 by-row-spec =
     tie.close
-    (tie.spec (λ c κs. search needs) (λ c. search needs) (λ c. search needs) (λ c κs. search needs) by-treatment-requires returns
-    returns-2)
+    (tie.spec row-of-requires (λ c. search needs) (λ c. search needs) (λ c κs. search needs) by-treatment-requires returns returns-2)

@@ -6,7 +6,7 @@ use Rattle.desk.proofs.account.by_treatment.Statement.{statement}
 use Rattle.desk.proofs.account.by_treatment.Tie as tie
 
 treatment-of-requires : tie.Need-treatment-of-requires
-treatment-of-requires c κs = c .before .before .pre .small
+treatment-of-requires c κs = (c .before .before .pre .small, c .before .before .pre .good .listed)
 
 generated-requires : tie.Need-generated-requires
 generated-requires c κs = record { coefficient = c .before .before .before .before .before .before .pre .good .coefficient; activity = c .before .before .before .before .before .before .pre .activity }

@@ -6,6 +6,9 @@ use Rattle.desk.specs.Account.{treatmentOf}
 use Rattle.desk.proofs.account.treatment_of.Statement.{statement}
 use Rattle.desk.proofs.account.treatment_of.Tie as tie
 
+technique-index-requires : tie.Need-technique-index-requires
+technique-index-requires c κs = (c .before .before .pre .0 .0, c .before .before .pre .0 .1, c .before .before .pre .1)
+
 returns : tie.Need-returns
 unfolding treatmentOf
 returns c = rw (eq-eqb _ _ (c .if1 .taken))
@@ -50,5 +53,5 @@ returns-4 c =
 pub treatment-of-spec : {M : Type 1} → statement M
 treatment-of-spec =
     tie.close
-    (tie.spec returns (λ c κs. search needs) (λ c. search needs) (λ c. search needs) (λ c κs. search needs) add-efficiency-at
+    (tie.spec returns technique-index-requires (λ c. search needs) (λ c. search needs) (λ c κs. search needs) add-efficiency-at
     efficiency-at-requires (λ c κs. search needs) returns-2 returns-3 returns-4)

@@ -30,5 +30,5 @@ returns-3 c = rw (← c .before .book-header-ok .ensures, c .if1 .left)
 pub book-ok-spec : {M : Type 1} → statement M
 book-ok-spec =
     tie.close
-    (tie.spec (λ c κs. search needs) (λ c κs. search needs) (λ c. search needs) checked-requires (λ c. search needs) checked-requires-2
-    returns returns-2 returns-3)
+    (tie.spec (λ c κs. search needs) (λ c κs. search needs) (λ c. search needs) checked-requires (λ c. search needs)
+    checked-requires-2 returns returns-2 returns-3)

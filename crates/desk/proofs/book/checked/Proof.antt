@@ -20,4 +20,5 @@ rows-ok-requires c κs =
 pub checked-spec : {M : Type 1} → statement M
 checked-spec =
     tie.close
-    (tie.spec (λ c κs. search needs) (λ c κs. search needs) fill-runs-requires rows-ok-requires (λ c. search needs) (λ c. search needs))
+    (tie.spec (λ c κs. search needs) (λ c κs. search needs) fill-runs-requires rows-ok-requires (λ c. search needs)
+    (λ c. search needs))

@@ -32,5 +32,5 @@ returns c = cc
 pub coefficient-at-spec : {M : Type 1} → statement M
 coefficient-at-spec =
     tie.close
-    (tie.spec (λ c. search needs) (λ c κs. search needs) (λ c. search needs) (λ c κs. search needs) (λ c. search needs)
-    (λ c κs. search needs) (λ c. search needs) sub-ten-to sub-ten-to-2 ten-to-requires mul-result returns)
+    (tie.spec (λ c κs. search needs) (λ c κs. search needs) (λ c κs. search needs) (λ c. search needs) sub-ten-to sub-ten-to-2
+    ten-to-requires mul-result returns)

@@ -28,5 +28,5 @@ returns-2 c = rw (← c .before .fields-ok .ensures, c .if1 .left)
 pub row-fits-spec : {M : Type 1} → statement M
 row-fits-spec =
     tie.close
-    (tie.spec (λ c κs. search needs) (λ c. search needs) (λ c κs. search needs) (λ c. search needs) (λ c κs. search needs)
-    coefficient-at-requires list-ok-requires returns returns-2)
+    (tie.spec (λ c κs. search needs) (λ c κs. search needs) (λ c κs. search needs) coefficient-at-requires list-ok-requires returns
+    returns-2)

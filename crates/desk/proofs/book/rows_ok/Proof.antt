@@ -68,4 +68,5 @@ pub rows-ok-spec : {M : Type 1} → statement M
 rows-ok-spec =
     tie.close
     (tie.spec Inv-loop μ-loop (λ c κs. search needs) (λ c κs. search needs) (λ c κs. search needs) loop-holds packed-at-requires
-    (λ c κs. search needs) row-fits-requires (λ c. search needs) (λ c. search needs) (λ c. search needs) loop-again returns returns-2)
+    (λ c κs. search needs) row-fits-requires (λ c. search needs) (λ c. search needs) (λ c. search needs) loop-again returns
+    returns-2)

@@ -9,4 +9,6 @@ unfolding techniqueBlock
 returns c = cc
 
 pub technique-block-spec : {M : Type 1} → statement M
-technique-block-spec = tie.close (tie.spec (λ c κs. search needs) (λ c κs. search needs) (λ c. search needs) (λ c κs. search needs) returns)
+technique-block-spec =
+    tie.close
+    (tie.spec (λ c κs. search needs) (λ c κs. search needs) (λ c. search needs) (λ c κs. search needs) returns)

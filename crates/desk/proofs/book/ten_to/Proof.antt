@@ -50,6 +50,4 @@ returns-9 c =
     record { eq = rw e; small = search needs }
 
 pub ten-to-spec : {M : Type 1} → statement M
-ten-to-spec =
-    tie.close
-    (tie.spec returns returns-2 returns-3 returns-4 returns-5 returns-6 returns-7 returns-8 returns-9)
+ten-to-spec = tie.close (tie.spec returns returns-2 returns-3 returns-4 returns-5 returns-6 returns-7 returns-8 returns-9)

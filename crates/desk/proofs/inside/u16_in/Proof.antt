@@ -1,4 +1,4 @@
--- The definition is opened: two bytes, each where it stands; what is left is linear.
+-- The low half, and the high half after it.
 use native.Mathlib.Omega.{arith}
 use borrow.Author.Needs.{needs}
 use Rattle.little.specs.Read.{u16At}

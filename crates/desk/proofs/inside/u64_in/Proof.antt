@@ -1,4 +1,4 @@
--- The definition is opened: two halves below 2^32, so that neither sum nor cast loses anything.
+-- The low half, and the high half after it.
 use native.Mathlib.Omega.{arith}
 use borrow.Author.Needs.{needs}
 use Rattle.little.specs.Read.{u64At}

@@ -1,4 +1,7 @@
--- Field by field, each read where it stands.
+-- Field by field, each read where it stands; codes are u16.
+use Prim.Native.Nat.{_+_}
+use mathlib.Core.Path.{_≡_}
+use native.Mathlib.Omega.{arith}
 use borrow.Author.Needs.{needs}
 use Rattle.desk.specs.Key.{keyFrom}
 use Rattle.desk.proofs.key.key_from.Statement.{statement}
@@ -6,10 +9,25 @@ use Rattle.desk.proofs.key.key_from.Tie as tie
 
 returns : tie.Need-returns
 unfolding keyFrom
-returns c = cc
+returns c =
+    let at = c .before .before .before .before .before .before .args .at in
+    let start : at + 0 ≡ at = omega arith in
+    let pre = c .before .before .before .before .before .before .pre in
+    record {
+      eq = cc;
+      small = record {
+        industry = c .before .before .before .before .u16-in .ensures .small;
+        product = c .before .before .before .u16-in2 .ensures .small;
+        material = c .before .before .u16-in3 .ensures .small;
+        process = c .before .u16-in4 .ensures .small;
+        scale = c .u16-in5 .ensures .small;
+        medium = pre .1;
+        pollutant = pre .2;
+      };
+    }
 
 pub key-from-spec : {M : Type 1} → statement M
 key-from-spec =
     tie.close
-    (tie.spec (λ c κs. search needs) (λ c. search needs) (λ c κs. search needs) (λ c. search needs) (λ c κs. search needs)
-    (λ c. search needs) (λ c κs. search needs) (λ c. search needs) (λ c κs. search needs) returns)
+    (tie.spec (λ c κs. search needs) (λ c κs. search needs) (λ c κs. search needs) (λ c κs. search needs) (λ c κs. search needs)
+    returns)

@@ -1,5 +1,6 @@
 -- Field by field, from where the line starts.
 use native.Mathlib.Omega.{arith}
+use mathlib.Core.Path.{_∙_}
 use borrow.Author.Needs.{needs}
 use Rattle.desk.specs.Line.{lineOf}
 use Rattle.desk.proofs.line.line_of.Statement.{statement}
@@ -8,13 +9,17 @@ use Rattle.desk.proofs.line.line_of.Tie as tie
 line-start-requires : tie.Need-line-start-requires
 line-start-requires c κs = c .before .pre .small
 
+key-from-requires : tie.Need-key-from-requires
+key-from-requires c κs =
+    let there = rw (← c .before .before .line-start .ensures .eq) at (c .before .before .before .before .pre .lies) in
+    (omega (arith, there), omega (arith, c .before .byte-in .ensures .small), omega (arith, c .byte-in2 .ensures .small))
+
 returns : tie.Need-returns
 unfolding lineOf
-returns c = rw (← c .before .before .before .before .before .before .before .before .line-start .ensures .eq) (cc)
+returns c = record { eq = rw (← c .before .before .before .before .before .before .before .before .line-start .ensures .eq) (cc); small = c .before .before .before .before .before .key-from .ensures .small }
 
 pub line-of-spec : {M : Type 1} → statement M
 line-of-spec =
     tie.close
-    (tie.spec line-start-requires (λ c κs. search needs) (λ c κs. search needs) (λ c κs. search needs) (λ c. search needs)
-    (λ c κs. search needs) (λ c. search needs) (λ c κs. search needs) (λ c. search needs) (λ c κs. search needs) (λ c. search needs)
-    (λ c κs. search needs) (λ c κs. search needs) returns)
+    (tie.spec line-start-requires (λ c κs. search needs) (λ c κs. search needs) key-from-requires (λ c κs. search needs)
+    (λ c κs. search needs) (λ c κs. search needs) (λ c κs. search needs) (λ c κs. search needs) returns)

@@ -16,5 +16,5 @@ returns c = record { eq = cc; small = search needs }
 pub row-at-spec : {M : Type 1} → statement M
 row-at-spec =
     tie.close
-    (tie.spec (λ c κs. search needs) coefficient-at-requires (λ c. search needs) (λ c κs. search needs) (λ c. search needs)
-    (λ c κs. search needs) (λ c. search needs) (λ c κs. search needs) (λ c. search needs) (λ c κs. search needs) returns)
+    (tie.spec (λ c κs. search needs) coefficient-at-requires (λ c κs. search needs) (λ c κs. search needs) (λ c κs. search needs)
+    (λ c κs. search needs) returns)

@@ -15,6 +15,4 @@ unfolding rowBefore
 returns c = λ k P. c .packed-less .ensures ∙ packed-is _ k _ _ (rw (c .before .before .row-start .ensures .eq) at (c .before .packed-at .ensures)) P
 
 pub row-before-spec : {M : Type 1} → statement M
-row-before-spec =
-    tie.close
-    (tie.spec (λ c κs. search needs) packed-at-requires (λ c κs. search needs) returns)
+row-before-spec = tie.close (tie.spec (λ c κs. search needs) packed-at-requires (λ c κs. search needs) returns)

@@ -5,6 +5,12 @@ use Rattle.desk.specs.Row.{rowIndex}
 use Rattle.desk.proofs.row.row_index.Statement.{statement}
 use Rattle.desk.proofs.row.row_index.Tie as tie
 
+all-scales-requires : tie.Need-all-scales-requires
+all-scales-requires c κs = c .before .pre .1
+
+index-of-requires-2 : tie.Need-index-of-requires-2
+index-of-requires-2 c κs = (c .before .before .before .before .before .pre .0, c .before .before .before .all-scales .ensures .small)
+
 returns : tie.Need-returns
 unfolding rowIndex
 returns c =
@@ -20,12 +26,12 @@ returns-2 c =
     let all-scales = c .before .before .before .before .all-scales in
     let index-of = c .before .before .before .index-of in
     record {
-      eq = rw (sym (index-of .ensures .eq) ∙ c .before .enum-told .given .1, ← all-scales .ensures) (c .index-of2 .ensures .eq);
+      eq = rw (sym (index-of .ensures .eq) ∙ c .before .enum-told .given .1, ← all-scales .ensures .eq) (c .index-of2 .ensures .eq);
       below = c .index-of2 .ensures .below;
     }
 
 pub row-index-spec : {M : Type 1} → statement M
 row-index-spec =
     tie.close
-    (tie.spec (λ c κs. search needs) (λ c κs. search needs) (λ c. search needs) (λ c. search needs) (λ c κs. search needs) returns
+    (tie.spec all-scales-requires (λ c κs. search needs) (λ c. search needs) (λ c. search needs) index-of-requires-2 returns
     returns-2)

@@ -12,7 +12,7 @@ row-at-requires c κs =
     let entry = c .before .before .before .before .before in
     let row-index = c .before .before .before .row-index in
     let below = row-below _ _ _ (sym (row-index .ensures .eq) ∙ c .before .i .given .1) in
-    (rw (c .before .i .given .1) at (row-index .ensures .below), good-row-in _ (entry .pre) _ below, row-fields _ (entry .pre) _ below)
+    (rw (c .before .i .given .1) at (row-index .ensures .below), good-row-in _ (entry .pre .0) _ below, row-fields _ (entry .pre .0) _ below)
 
 returns : tie.Need-returns
 unfolding rowOf

@@ -3,15 +3,16 @@ use Prim.Native.Nat.{_+_, _-_, _/_, _≤_, _<_}
 use mathlib.Core.Path.{sym, _∙_}
 use native.Mathlib.Omega.{arith}
 use borrow.Author.Needs.{needs}
+use Rattle.search.proofs.LawCut.{cut-start, cut-low, cut-high, cut-met}
 use Rattle.desk.specs.Book.{rowCount}
-use Rattle.desk.specs.Inner.{PackedCut}
+use Rattle.desk.specs.Inner.{PackedCut, counted}
 use Rattle.desk.proofs.LawBook.{good-row-in}
-use Rattle.desk.proofs.LawOrder.{cut-start, cut-low, cut-high, cut-met}
+use Rattle.desk.proofs.LawOrder.{rows-fall}
 use Rattle.desk.proofs.row.rows_before.Statement.{statement}
 use Rattle.desk.proofs.row.rows_before.Tie as tie
 
 abbrev Inv-loop : tie.InvT-loop
-Inv-loop b wanted low₀ high₀ low high = PackedCut b wanted low high × (low ≤ high) × (high ≤ rowCount b) × (high < 65536)
+Inv-loop b wanted low₀ high₀ low high = PackedCut b wanted low high × (low ≤ high) × (high ≤ rowCount b) × (high < counted)
 
 abbrev μ-loop : tie.MeasureT-loop
 μ-loop b wanted low₀ high₀ low high = high - low
@@ -19,7 +20,7 @@ abbrev μ-loop : tie.MeasureT-loop
 loop-holds : tie.Need-loop-holds Inv-loop μ-loop
 loop-holds c =
     let n = c .row-count .ensures in
-    (λ k P. rw (n .eq) (cut-start _ (c .before .before .pre) k), omega arith, omega (arith, n .eq), n .small)
+    (λ k P. rw (n .eq) (cut-start _ _), omega arith, omega (arith, n .eq), n .small)
 
 row-before-requires : tie.Need-row-before-requires Inv-loop μ-loop
 row-before-requires c κs =
@@ -31,7 +32,7 @@ loop-again c =
     let l = c .before .before .before .loop in
     let m = l .low + (l .high - l .low) / 2 in
     let half : (l .low ≤ m) × (m < l .high) = (omega arith, omega arith) in (
-      λ k P. cut-low _ (c .before .before .before .before .before .before .pre) k (l .low) (l .high) m (l .inv .0 k P) (half .0) (half .1) (sym (c .before .row-before .ensures k P) ∙ c .if1 .taken),
+      λ k P. cut-low (rows-fall _ (c .before .before .before .before .before .before .pre) k) (l .inv .0 k P) m (half .0) (half .1) (sym (c .before .row-before .ensures k P) ∙ c .if1 .taken),
       omega arith,
       l .inv .2,
       l .inv .3,
@@ -42,14 +43,14 @@ loop-again-2 c =
     let l = c .before .before .before .loop in
     let m = l .low + (l .high - l .low) / 2 in
     let half : (l .low ≤ m) × (m < l .high) = (omega arith, omega arith) in (
-      λ k P. cut-high _ (c .before .before .before .before .before .before .pre) k (l .low) (l .high) m (l .inv .0 k P) (half .0) (half .1) (sym (c .before .row-before .ensures k P) ∙ c .if1 .left),
+      λ k P. cut-high (rows-fall _ (c .before .before .before .before .before .before .pre) k) (l .inv .0 k P) m (half .0) (half .1) (sym (c .before .row-before .ensures k P) ∙ c .if1 .left),
       omega arith,
       omega arith,
       omega arith,
     )
 
 returns : tie.Need-returns Inv-loop μ-loop
-returns c = λ k P. cut-met _ k _ _ (c .before .loop .inv .0 k P) (c .loop-test .left)
+returns c = λ k P. cut-met (c .before .loop .inv .0 k P) (c .loop-test .left)
 
 pub rows-before-spec : {M : Type 1} → statement M
 rows-before-spec =

@@ -63,5 +63,5 @@ returns c = record { long = c .before .loop .inv .4; at = λ k l. c .before .loo
 pub fill-runs-spec : {M : Type 1} → statement M
 fill-runs-spec =
     tie.close
-    (tie.spec Inv-loop μ-loop loop-holds (λ c. search needs) (λ c κs. search needs) (λ c κs. search needs) run-before-requires cast-runs
-    (λ c. search needs) (λ c. search needs) (λ c. search needs) loop-again (λ c. search needs) returns)
+    (tie.spec Inv-loop μ-loop loop-holds (λ c. search needs) (λ c κs. search needs) (λ c κs. search needs) run-before-requires
+    cast-runs (λ c. search needs) (λ c. search needs) (λ c. search needs) loop-again (λ c. search needs) returns)

@@ -22,6 +22,4 @@ unfolding listOk
 returns-3 c = rw (ne-eqb _ _ (c .before .if1 .left), lt-leb _ _ (c .if2 .left))
 
 pub list-ok-spec : {M : Type 1} → statement M
-list-ok-spec =
-    tie.close
-    (tie.spec returns (λ c. search needs) (λ c. search needs) (λ c. search needs) cast-result returns-2 returns-3)
+list-ok-spec = tie.close (tie.spec returns (λ c. search needs) (λ c. search needs) (λ c. search needs) cast-result returns-2 returns-3)

@@ -14,6 +14,4 @@ returns-3 : tie.Need-returns-3
 returns-3 c = rw (c .if1 .left)
 
 pub run-before-spec : {M : Type 1} → statement M
-run-before-spec =
-    tie.close
-    (tie.spec (λ c. search needs) returns returns-2 returns-3)
+run-before-spec = tie.close (tie.spec (λ c. search needs) returns returns-2 returns-3)

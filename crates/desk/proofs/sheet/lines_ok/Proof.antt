@@ -35,5 +35,5 @@ returns c = rw (all-done _ (c .before .loop .inv) (c .loop-test .left)) (cc)
 pub lines-ok-spec : {M : Type 1} → statement M
 lines-ok-spec =
     tie.close
-    (tie.spec Inv-loop μ-loop (λ c κs. search needs) loop-holds line-ok-requires (λ c. search needs) (λ c. search needs)
-    loop-again returns)
+    (tie.spec Inv-loop μ-loop (λ c κs. search needs) loop-holds line-ok-requires (λ c. search needs) (λ c. search needs) loop-again
+    returns)

@@ -23,4 +23,5 @@ returns-3 c = rw (← c .before .book-ok .ensures, c .if1 .left)
 pub by-files-spec : {M : Type 1} → statement M
 by-files-spec =
     tie.close
-    (tie.spec (λ c κs. search needs) (λ c κs. search needs) (λ c κs. search needs) (λ c κs. search needs) returns returns-2 returns-3)
+    (tie.spec (λ c κs. search needs) (λ c κs. search needs) (λ c κs. search needs) (λ c κs. search needs) returns returns-2
+    returns-3)

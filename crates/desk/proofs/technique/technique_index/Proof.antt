@@ -1,47 +1,38 @@
--- The invariant: none of the techniques so far has the code.
-use Prim.Native.Nat.{_≤_, _-_}
-use mathlib.Core.Path.{sym, _∙_, _≡_}
+-- The technique at the cut has the code, or none has.
+use mathlib.Core.Path.{sym, _∙_}
 use native.Mathlib.Omega.{arith}
 use borrow.Author.Tests.{eq-eqb, ne-eqb}
 use borrow.Author.Needs.{needs}
-use Rattle.search.specs.First.{first}
-use Rattle.search.proofs.LawFirst.{first-start, first-more, first-here, first-done}
-use Rattle.search.specs.declared.found.Found.the-variants.{Nothing}
+use Rattle.search.proofs.LawCut.{cut-here, cut-other, cut-none}
 use Rattle.desk.specs.Technique.{techniqueHas, techniqueIndex}
+use Rattle.desk.proofs.LawTechnique.{below-other, past-other}
 use Rattle.desk.proofs.technique.technique_index.Statement.{statement}
 use Rattle.desk.proofs.technique.technique_index.Tie as tie
 
-abbrev Inv-loop : tie.InvT-loop
-Inv-loop t from count code j₀ j = (j ≤ count) × (first j (techniqueHas t from code) ≡ Nothing)
+codes-below-requires : tie.Need-codes-below-requires
+codes-below-requires c κs = c .before .pre
 
-abbrev μ-loop : tie.MeasureT-loop
-μ-loop t from count code j₀ j = count - j
+code-in-requires : tie.Need-code-in-requires
+code-in-requires c κs = c .before .before .before .pre .2 .lies _ (c .if1 .taken)
 
-loop-holds : tie.Need-loop-holds Inv-loop μ-loop
-loop-holds c = (search needs, first-start _)
-
-returns : tie.Need-returns Inv-loop μ-loop
+returns : tie.Need-returns
 unfolding techniqueIndex techniqueHas
 returns c =
-    let loop = c .before .before .before .loop in
-    let loop-test = c .before .before .loop-test in
-    record {
-      eq = first-here _ _ _ (loop .inv .1) (eq-eqb _ _ (sym (c .before .code-at .ensures .eq) ∙ c .if1 .taken)) (loop-test .taken);
-      below = omega arith;
-    }
+    let cut = c .before .before .before .codes-below .ensures in
+    let here = sym (c .before .code-in .ensures .eq) ∙ c .if2 .taken in
+    record { eq = cut-here cut _ (below-other _ _ _) (c .before .before .if1 .taken) (eq-eqb _ _ here); below = omega arith }
 
-loop-again : tie.Need-loop-again Inv-loop μ-loop
-unfolding techniqueHas
-loop-again c =
-    let loop = c .before .before .before .loop in
-    (search needs, first-more _ _ (loop .inv .1) (ne-eqb _ _ (λ e. c .if1 .left (c .before .code-at .ensures .eq ∙ e))))
+returns-2 : tie.Need-returns-2
+unfolding techniqueIndex techniqueHas
+returns-2 c =
+    let cut = c .before .before .before .codes-below .ensures in
+    let other = ne-eqb _ _ (λ e. c .if2 .left (c .before .code-in .ensures .eq ∙ e)) in
+    let past = past-other _ _ _ _ (c .before .before .before .before .before .pre .2) _ (cut .above _ (omega arith) (c .before .before .if1 .taken)) in
+    record { eq = cut-other cut _ (below-other _ _ _) other past; below = tt }
 
-returns-2 : tie.Need-returns-2 Inv-loop μ-loop
+returns-3 : tie.Need-returns-3
 unfolding techniqueIndex
-returns-2 c = record { eq = first-done _ (c .before .loop .inv) (c .loop-test .left); below = tt }
+returns-3 c = record { eq = cut-none (c .before .codes-below .ensures) _ (below-other _ _ _) (c .if1 .left); below = tt }
 
 pub technique-index-spec : {M : Type 1} → statement M
-technique-index-spec =
-    tie.close
-    (tie.spec Inv-loop μ-loop loop-holds (λ c. search needs) (λ c κs. search needs) returns (λ c. search needs) (λ c. search needs)
-    loop-again returns-2)
+technique-index-spec = tie.close (tie.spec codes-below-requires (λ c. search needs) code-in-requires returns returns-2 returns-3)

@@ -7,7 +7,15 @@ use Rattle.desk.proofs.book.book_header_ok.Tie as tie
 
 returns : tie.Need-returns
 unfolding every bookHeaderOk
-returns c = cc
+returns c =
+    rw (
+      ← c .before .before .before .before .before .u32-at .ensures .eq,
+      ← c .before .before .before .before .row-count .ensures .eq,
+      ← c .before .before .before .technique-count .ensures .eq,
+      ← c .before .before .row-offset .ensures .eq,
+      ← c .before .technique-offset .ensures .eq,
+      ← c .file-ok .ensures,
+    )
 
 pub book-header-ok-spec : {M : Type 1} → statement M
 book-header-ok-spec =

@@ -27,7 +27,7 @@ mul-result c = product-fits 4_294_967_296 100_000_000 (omega arith) (omega arith
 
 returns : tie.Need-returns
 unfolding coefficientAt
-returns c = cc
+returns c = rw (← c .before .before .before .byte-in .ensures .eq, ← c .before .before .byte-in2 .ensures .eq, ← c .before .u32-in .ensures .eq, ← c .ten-to .ensures .eq)
 
 pub coefficient-at-spec : {M : Type 1} → statement M
 coefficient-at-spec =

@@ -7,7 +7,16 @@ use Rattle.desk.proofs.book.fields_ok.Tie as tie
 
 returns : tie.Need-returns
 unfolding every fieldsOk
-returns c = cc
+returns c =
+    rw (
+      ← c .before .before .before .before .before .before .byte-in .ensures .eq,
+      ← c .before .before .before .before .before .byte-in2 .ensures .eq,
+      ← c .before .before .before .before .byte-in3 .ensures .eq,
+      ← c .before .before .before .byte-in4 .ensures .eq,
+      ← c .before .before .byte-in5 .ensures .eq,
+      ← c .before .byte-in6 .ensures .eq,
+      ← c .u16-in .ensures .eq,
+    )
 
 pub fields-ok-spec : {M : Type 1} → statement M
 fields-ok-spec =

@@ -6,7 +6,7 @@ use Rattle.desk.proofs.book.technique_block.Tie as tie
 
 returns : tie.Need-returns
 unfolding techniqueBlock
-returns c = cc
+returns c = rw (← c .before .before .technique-offset .ensures .eq, ← c .before .technique-count .ensures .eq) (c .part .ensures)
 
 pub technique-block-spec : {M : Type 1} → statement M
 technique-block-spec =

@@ -7,7 +7,7 @@ use Rattle.desk.proofs.house.file_ok.Tie as tie
 
 returns : tie.Need-returns
 unfolding every fileOk
-returns c = cc
+returns c = rw (← c .u32-at .ensures .eq)
 
 pub file-ok-spec : {M : Type 1} → statement M
 file-ok-spec = tie.close (tie.spec (λ c κs. search needs) returns)

@@ -12,9 +12,16 @@ unfolding keyFrom
 returns c =
     let at = c .before .before .before .before .before .before .args .at in
     let start : at + 0 ≡ at = omega arith in
+    let industry = rw start at (c .before .before .before .before .u16-in .ensures .eq) in
     let pre = c .before .before .before .before .before .before .pre in
     record {
-      eq = cc;
+      eq = rw (
+        ← industry,
+        ← c .before .before .before .u16-in2 .ensures .eq,
+        ← c .before .before .u16-in3 .ensures .eq,
+        ← c .before .u16-in4 .ensures .eq,
+        ← c .u16-in5 .ensures .eq,
+      );
       small = record {
         industry = c .before .before .before .before .u16-in .ensures .small;
         product = c .before .before .before .u16-in2 .ensures .small;

@@ -4,7 +4,7 @@ use Rattle.desk.proofs.line.float_at.Statement.{statement}
 use Rattle.desk.proofs.line.float_at.Tie as tie
 
 returns : tie.Need-returns
-returns c = cc
+returns c = rw (← c .before .u64-in .ensures) (c .from-bits .ensures)
 
 pub float-at-spec : {M : Type 1} → statement M
 float-at-spec = tie.close (tie.spec (λ c κs. search needs) (λ c κs. search needs) returns)

@@ -7,7 +7,16 @@ use Rattle.desk.proofs.sheet.sheet_header_ok.Tie as tie
 
 returns : tie.Need-returns
 unfolding every sheetHeaderOk
-returns c = cc
+returns c =
+    rw (
+      ← c .before .before .before .before .before .before .u32-at .ensures .eq,
+      ← c .before .before .before .before .before .line-count .ensures .eq,
+      ← c .before .before .before .before .byte-at .ensures .eq,
+      ← c .before .before .before .byte-at2 .ensures .eq,
+      ← c .before .before .u32-at2 .ensures .eq,
+      ← c .before .u32-at3 .ensures .eq,
+      ← c .file-ok .ensures,
+    )
 
 pub sheet-header-ok-spec : {M : Type 1} → statement M
 sheet-header-ok-spec =

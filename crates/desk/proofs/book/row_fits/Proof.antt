@@ -1,7 +1,10 @@
 -- A list of techniques is right exactly where it is no longer than the run from its first one on.
-use mathlib.Core.Path.{sym, _∙_}
+use mathlib.Core.Bool.{Bool, _&&_}
+use mathlib.Core.Path.{ap, sym, _∙_}
+use lib.Dec.{leb}
 use native.Mathlib.Omega.{arith}
 use Rattle.search.specs.Test.{every}
+use Rattle.desk.specs.Book.{mostCoefficient}
 use Rattle.desk.specs.Inner.{rowFits}
 use Rattle.desk.proofs.LawRun.{listed}
 use borrow.Author.Needs.{needs}
@@ -19,7 +22,14 @@ unfolding every rowFits
 returns c =
     let pre = c .before .before .before .before .before .before .before .before .pre in
     let runs = rw (pre .1) at (pre .2) in
-    rw (← c .before .before .before .before .before .fields-ok .ensures, c .before .before .before .before .if1 .taken) (cc (listed _ _ _ _ _ _ _ (pre .1) runs (c .list-ok .ensures)))
+    let list = listed _ _ _ _ _ _ _ (pre .1) runs (c .list-ok .ensures) in
+    let fields = c .before .before .before .before .before .fields-ok .ensures in
+    let fit = c .before .before .before .before .if1 .taken in
+    let first = c .before .before .before .u16-in .ensures .eq in
+    let techniques = c .before .before .u16-in2 .ensures .eq in
+    let coefficient = c .before .coefficient-at in
+    rw (← fields, fit, ← coefficient .ensures, ← first, ← techniques)
+    (ap (λ (x : Bool). leb (coefficient .result) mostCoefficient && x) list)
 
 returns-2 : tie.Need-returns-2
 unfolding every rowFits

@@ -1,6 +1,6 @@
 -- The invariant: all rows so far are right, and `last` is the key of the row before; the first row that is not ends it.
-use Prim.Native.Nat.{_≤_, _<_, _+_, _-_}
-use mathlib.Core.Path.{_≡_, sym, _∙_}
+use Prim.Native.Nat.{ℕ, _≤_, _<_, _+_, _-_}
+use mathlib.Core.Path.{_≡_, ap, sym, _∙_}
 use mathlib.Core.Bool.{true, _&&_, _||_}
 use native.Mathlib.Omega.{arith}
 use lib.Dec.{eqb}
@@ -62,7 +62,8 @@ returns c =
 returns-2 : tie.Need-returns-2 Inv-loop μ-loop
 returns-2 c =
     let l = c .before .loop in
-    rw (all-done _ (l .inv .0, l .inv .1) (c .loop-test .left)) (cc)
+    let b = c .before .before .before .before .before .before .before .args .b .now in
+    all-done _ (l .inv .0, l .inv .1) (c .loop-test .left) ∙ ap (λ (n : ℕ). all n (rowOk b (techniqueBlock b))) (c .before .before .before .before .row-count .ensures .eq)
 
 pub rows-ok-spec : {M : Type 1} → statement M
 rows-ok-spec =

@@ -16,17 +16,20 @@ key-from-requires c κs =
 
 returns : tie.Need-returns
 unfolding lineOf
-returns c = record { eq = rw (
-        ← c .before .before .before .before .before .before .before .before .line-start .ensures .eq,
-        ← c .before .before .before .before .before .before .before .byte-in .ensures .eq,
-        ← c .before .before .before .before .before .before .byte-in2 .ensures .eq,
-        ← c .before .before .before .before .before .key-from .ensures .eq,
-        ← c .before .before .before .before .u16-in .ensures .eq,
-        ← c .before .before .before .u16-in2 .ensures .eq,
-        ← c .before .before .u64-in .ensures,
-        ← c .before .u64-in2 .ensures,
-        ← c .reading-at .ensures,
-      ); small = c .before .before .before .before .before .key-from .ensures .small }
+returns c = record {
+  eq = rw (
+    ← c .before .before .before .before .before .before .before .before .line-start .ensures .eq,
+    ← c .before .before .before .before .before .before .before .byte-in .ensures .eq,
+    ← c .before .before .before .before .before .before .byte-in2 .ensures .eq,
+    ← c .before .before .before .before .before .key-from .ensures .eq,
+    ← c .before .before .before .before .u16-in .ensures .eq,
+    ← c .before .before .before .u16-in2 .ensures .eq,
+    ← c .before .before .u64-in .ensures,
+    ← c .before .u64-in2 .ensures,
+    ← c .reading-at .ensures,
+  );
+  small = c .before .before .before .before .before .key-from .ensures .small;
+}
 
 pub line-of-spec : {M : Type 1} → statement M
 line-of-spec =

@@ -11,14 +11,17 @@ coefficient-at-requires c κs =
 
 returns : tie.Need-returns
 unfolding rowAt
-returns c = record { eq = rw (
-        ← c .before .before .before .before .before .row-start .ensures .eq,
-        ← c .before .before .before .before .coefficient-at .ensures,
-        ← c .before .before .before .byte-in .ensures .eq,
-        ← c .before .before .byte-in2 .ensures .eq,
-        ← c .before .u16-in .ensures .eq,
-        ← c .u16-in2 .ensures .eq,
-      ); small = search needs }
+returns c = record {
+  eq = rw (
+    ← c .before .before .before .before .before .row-start .ensures .eq,
+    ← c .before .before .before .before .coefficient-at .ensures,
+    ← c .before .before .before .byte-in .ensures .eq,
+    ← c .before .before .byte-in2 .ensures .eq,
+    ← c .before .u16-in .ensures .eq,
+    ← c .u16-in2 .ensures .eq,
+  );
+  small = search needs;
+}
 
 pub row-at-spec : {M : Type 1} → statement M
 row-at-spec =

@@ -1,6 +1,6 @@
 -- The invariant: all lines so far are right, exactly where `ok` says so.
-use Prim.Native.Nat.{_≤_, _-_}
-use mathlib.Core.Path.{_≡_}
+use Prim.Native.Nat.{ℕ, _≤_, _-_}
+use mathlib.Core.Path.{_≡_, ap, _∙_}
 use native.Mathlib.Omega.{arith}
 use borrow.Author.Needs.{needs}
 use Rattle.search.proofs.LawTest.{all-start, all-step, all-done}
@@ -30,7 +30,7 @@ loop-again c =
     (search needs, all-step _ _ (loop .inv .1) (c .line-ok .ensures))
 
 returns : tie.Need-returns Inv-loop μ-loop
-returns c = rw (all-done _ (c .before .loop .inv) (c .loop-test .left)) (cc)
+returns c = all-done _ (c .before .loop .inv) (c .loop-test .left) ∙ ap (λ (n : ℕ). all n (lineOk (c .before .before .before .before .args .s .now))) (c .before .before .line-count .ensures .eq)
 
 pub lines-ok-spec : {M : Type 1} → statement M
 lines-ok-spec =

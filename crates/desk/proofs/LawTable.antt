@@ -11,7 +11,6 @@ use native.Mathlib.Nat.{not-suc-le-zero, le-of-suc-le-suc, eq-or-lt-of-le}
 use native.Mathlib.Omega.{arith}
 use lib.Dec.{leb}
 use lib.ListN.{length, set, drop, replicate, length-append}
-use borrow.Rule.Slice.PartMut.{putMid}
 use borrow.Author.Tests.{leb-true}
 use Rattle.search.proofs.LawTest.{clash, either-way, and-left, and-right, every-at}
 use Rattle.little.proofs.LawPart.{put-part}
@@ -23,7 +22,7 @@ use Rattle.desk.specs.Sheet.{sheetHeader, sheetHeaderSize, sheetFits, sh
 use Rattle.desk.specs.Cells.{width, tableSize, cellsOf, zeros, plus}
 use Rattle.desk.specs.Tally.{add}
 use Rattle.desk.specs.Table.{rowGiven, rows, total, tableOf, byFiles, byLines, orElseLines, cellsAfter}
-use Rattle.desk.specs.Inner.{Fitting, Ready, Fillable}
+use Rattle.desk.specs.Inner.{Fitting, Ready, Fillable, withRow}
 use Rattle.desk.specs.declared.answer.LineFault.{LineFault}
 use Rattle.desk.specs.declared.answer.Outcome.{Outcome}
 use Rattle.desk.specs.declared.answer.Outcome.the-variants.{Accepted, RefusedFile, RefusedLine}
@@ -66,11 +65,11 @@ module _ (l : ℕ → LineOutcome) where
   length-rows (suc i) = omega (arith, length-append (rows i l) (cellsOf (rowGiven (l i))), length-rows i)
 
   module _ (i : ℕ) {row : TableRow} (e : l i ≡ Given row) where
-    pub rows-step : (c : List ℕ) {x v : List ℕ} → x ≡ rows i l ++ drop (width * i) c → v ≡ cellsOf row
-        → putMid (width * i) (width * i + width - width * i) x v ≡ rows (i + 1) l ++ drop (width * (i + 1)) c
+    pub rows-step : (c : List ℕ) {x y : List ℕ} → x ≡ rows i l ++ drop (width * i) c → y ≡ withRow i row x
+        → y ≡ rows (i + 1) l ++ drop (width * (i + 1)) c
     unfolding rows
     rows-step c p q =
-        rw (p, q, add-one i, e)
+        rw (q, p, add-one i, e)
         (rw (put-part width i (rows i l) c (cellsOf row) (length-rows i), add-one i, append-assoc))
 
     pub total-step : {t r : Tally} → t ≡ total i l → r ≡ add t row → r ≡ total (i + 1) l
@@ -95,11 +94,11 @@ module _ (l : ℕ → LineOutcome) where
   refused-cells (RefusedFile k) n c x refused h = h
   refused-cells (RefusedLine k line) n c x refused h = h
 
-  pub accepted-cells : (n : ℕ) (c x v : List ℕ) → x ≡ rows n l ++ drop (width * n) c → v ≡ cellsOf (total n l .sums)
-      → putMid (width * n) (width * n + width - width * n) x v ≡ cellsAfter Accepted n l c
+  pub accepted-cells : (n : ℕ) (c : List ℕ) {x y : List ℕ} {t : Tally} → x ≡ rows n l ++ drop (width * n) c → t ≡ total n l
+      → y ≡ withRow n (t .sums) x → y ≡ cellsAfter Accepted n l c
   unfolding cellsAfter tableOf
-  accepted-cells n c x v p q =
-      rw (p, q) (rw (put-part width n (rows n l) c (cellsOf (total n l .sums)) (length-rows n), append-assoc))
+  accepted-cells n c p q s =
+      rw (s, p, q) (rw (put-part width n (rows n l) c (cellsOf (total n l .sums)) (length-rows n), append-assoc))
 
   -- ---- the sums, where every line's row balances
 

@@ -185,6 +185,10 @@ pub record Accountable (b : List ℕ) (line : Line) : Type 0 where
 
 -- ---- the tables
 
+-- the cells with this row written in the part that is row i's
+abbrev pub withRow : (i : ℕ) (row : TableRow) (cells : List ℕ) → List ℕ
+withRow i row cells = take (width * i) cells ++ (cellsOf row ++ drop width (drop (width * i) cells))
+
 -- every new sum fits 64 bits
 abbrev pub Fitting : Tally → TableRow → Type 0
 Fitting t row = (j : ℕ) → j < width → at (cellsOf (t .sums)) j + at (cellsOf row) j < 18_446_744_073_709_551_616

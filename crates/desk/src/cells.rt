@@ -1,7 +1,9 @@
 // A row of the tables as a value, and the cells that it is written in.
 ghost use mathlib.Core.Path.{_≡_};
 ghost use lib.ListN.{length};
+ghost use Prim.Native.Nat.{_≤_, _+_, _*_};
 ghost use Rattle.desk.specs.Cells.{cellsOf, rowFrom, width};
+ghost use Rattle.desk.specs.Inner.{withRow};
 use amounts::line::Amounts;
 
 // The cells of a row: G, R, U, D.
@@ -30,7 +32,7 @@ pub(crate) fn row_from(a: Amounts) -> TableRow
 }
 
 // The row's own part of the result is lent.
-pub(crate) fn write_row(cells: &mut [u64], row: TableRow)
+fn write_row(cells: &mut [u64], row: TableRow)
     requires { ⌜ length (now cells) ≡ width ⌝ }
     ensures { λ _. ⌜ now (cells .exit) ≡ cellsOf row ⌝ }
 {
@@ -38,4 +40,13 @@ pub(crate) fn write_row(cells: &mut [u64], row: TableRow)
     cells[1] = row.removed;
     cells[2] = row.reused;
     cells[3] = row.discharged;
+}
+
+// Row i of a table, written in its own part of the table's cells.
+pub(crate) fn put_row(cells: &mut [u64], i: usize, row: TableRow)
+    requires { ⌜ width * i + width ≤ length (now cells) ⌝ }
+    ensures { λ _. ⌜ now (cells .exit) ≡ withRow i row (now (cells .entry)) ⌝ }
+{
+    let from = COLUMNS * i;
+    write_row(&mut cells[from..from + COLUMNS], row);
 }

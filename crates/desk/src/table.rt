@@ -11,7 +11,7 @@ use super::answer::FileFault;
 use super::answer::Outcome;
 use super::book::book_ok;
 use super::cells::COLUMNS;
-use super::cells::write_row;
+use super::cells::put_row;
 use super::sheet::MOST_LINES;
 use super::sheet::line_count;
 use super::sheet::sheet_ok;
@@ -62,17 +62,13 @@ pub(crate) fn fill(b: &[u8], s: &[u8], lines: usize, exact: &mut [u64]) -> Outco
                 return Outcome::RefusedLine(fault, (i + 1) as u16);
             }
             LineOutcome::Given(row) => {
-                let from = COLUMNS * i;
-                let to = from + COLUMNS;
-                write_row(&mut exact[from..to], row);
+                put_row(exact, i, row);
                 tally = tally.add(row);
                 i += 1;
             }
         }
     }
-    let from = COLUMNS * lines;
-    let to = from + COLUMNS;
-    write_row(&mut exact[from..to], tally.sums);
+    put_row(exact, lines, tally.sums);
     Outcome::Accepted
 }
 

@@ -2,7 +2,7 @@
 use Prim.Native.Nat.{ℕ, _+_, _*_, _-_, _≤_}
 use mathlib.Core.Path.{_≡_, sym, ap, _∙_}
 use mathlib.Core.List.{List, [], _++_, append-nil}
-use native.Mathlib.Nat.{le-antisymm, add-sub-cancel-left, mul-suc}
+use native.Mathlib.Nat.{le-antisymm, mul-suc}
 use native.Mathlib.Numerals.{add-one}
 use native.Mathlib.Omega.{arith}
 use lib.ListN.{length, take, drop, replicate, drop-of-length-le, length-drop}
@@ -28,7 +28,7 @@ fill-done d v i h g =
 
 -- of a list cut into parts of k entries each, part i is written: before it stands p, and what follows is as it was
 pub put-part : (k i : ℕ) (p e v : List ℕ) → length p ≡ k * i
-    → putMid (k * i) (k * i + k - k * i) (p ++ drop (k * i) e) v ≡ p ++ (v ++ drop (k * (i + 1)) e)
+    → putMid (k * i) k (p ++ drop (k * i) e) v ≡ p ++ (v ++ drop (k * (i + 1)) e)
 put-part k i p e v h =
     let rest = drop (k * i) e in
-    rw (take-at p rest (k * i) h, drop-at p rest (k * i) h, add-sub-cancel-left (k * i) k, drop-drop k (k * i) e, add-one i, mul-suc k i)
+    rw (take-at p rest (k * i) h, drop-at p rest (k * i) h, drop-drop k (k * i) e, add-one i, mul-suc k i)

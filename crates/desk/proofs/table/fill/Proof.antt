@@ -9,9 +9,8 @@ use denote.Ref.{now}
 use Rattle.desk.specs.declared.answer.Outcome.the-variants.{Accepted}
 use Rattle.desk.specs.Table.{rows, total, byLines}
 use Rattle.search.proofs.LawTest.{clash}
-use Rattle.desk.specs.Cells.{width, cellsOf}
+use Rattle.desk.specs.Cells.{width}
 use Rattle.desk.specs.Lent.{lent}
-use Rattle.desk.specs.declared.tally.Tally.{Tally}
 use Rattle.desk.specs.Account.{lineOutcome}
 use Rattle.desk.proofs.LawAccount.{line-balances}
 use Rattle.desk.proofs.LawTable.{rows-step, total-step, answer-step, answer-refused, refused-cells, accepted-cells, tally-fits}
@@ -61,26 +60,22 @@ loop-again c =
     let loop = c .before .before .before .before .before .before .before .before .before .before .loop in
     let line-outcome = c .before .before .before .before .before .before .before .before .line-outcome in
     let row = c .before .before .before .before .before .before .row in
-    let write-row = c .before .before .before .write-row in
     let e = sym (line-outcome .ensures) ∙ row .given .1 in
-    (search needs, search needs, rows-step _ _ e _ (loop .inv .2) (write-row .ensures), total-step _ _ e (loop .inv .3) (c .add .ensures), answer-step _ _ e (loop .inv .4))
+    (search needs, search needs, rows-step _ _ e _ (loop .inv .2) (c .before .before .before .put-row .ensures), total-step _ _ e (loop .inv .3) (c .add .ensures), answer-step _ _ e (loop .inv .4))
 
 returns-2 : tie.Need-returns-2 Inv-loop μ-loop
 returns-2 c =
     let entry = c .before .before .before .before .before .before .before .before .before .before in
     let loop = c .before .before .before .before .before .loop in
-    let write-row2 = c .before .before .write-row2 in
     let e : loop .i ≡ entry .args .lines = omega arith in
     record {
       answer = sym (rw e at (loop .inv .4));
-      table = accepted-cells _ _ _ _ _ (rw e at (loop .inv .2)) (write-row2 .ensures ∙ ap (λ (t : Tally). cellsOf (t .sums)) (rw e at (loop .inv .3)));
+      table = accepted-cells _ _ _ (rw e at (loop .inv .2)) (rw e at (loop .inv .3)) (c .before .before .put-row2 .ensures);
     }
 
 pub fill-spec : {M : Type 1} → statement M
 fill-spec =
     tie.close
     (tie.spec Inv-loop μ-loop (λ c κs. search needs) loop-holds line-outcome-requires (λ c. search needs) (λ c κs. search needs)
-    (λ c. search needs) (λ c. search needs) (λ c. search needs) returns (λ c. search needs) (λ c. search needs) (λ c. search needs)
-    (λ c. search needs) (λ c. search needs) (λ c. search needs) (λ c. search needs) (λ c κs. search needs) add-requires
-    (λ c. search needs) (λ c. search needs) loop-again (λ c. search needs) (λ c. search needs) (λ c. search needs)
-    (λ c. search needs) (λ c. search needs) (λ c. search needs) (λ c κs. search needs) (λ c. search needs) returns-2)
+    (λ c. search needs) (λ c. search needs) (λ c. search needs) returns (λ c. search needs) (λ c κs. search needs) add-requires
+    (λ c. search needs) (λ c. search needs) loop-again (λ c κs. search needs) (λ c. search needs) returns-2)

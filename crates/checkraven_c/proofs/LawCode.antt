@@ -8,11 +8,11 @@ use native.Mathlib.Omega.{arith}
 use lib.ListN.{length}
 use Rattle.search.proofs.LawTest.{clash}
 use Rattle.desk.specs.Lent.{Lent}
-use Rattle.desk.specs.Answer.{answerNumber, answerLine}
+use Rattle.answers.specs.Answer.{answerNumber, answerLine}
 use Rattle.desk.specs.Sheet.{mostLines}
 use Rattle.desk.specs.Demands.{OfFile, OfLine}
-use Rattle.desk.specs.declared.answer.Outcome.{Outcome}
-use Rattle.desk.specs.declared.answer.Outcome.the-variants.{Accepted, RefusedFile, RefusedLine}
+use Rattle.answers.specs.declared.answer.Outcome.{Outcome}
+use Rattle.answers.specs.declared.answer.Outcome.the-variants.{Accepted, RefusedFile, RefusedLine}
 use Rattle.desk.proofs.LawDemands.{answer-line-small}
 use Rattle.desk.proofs.LawOnce.{declared-once}
 use Rattle.checkraven_c.specs.Code.{numberUnit, codeOf, answered, Accounts}

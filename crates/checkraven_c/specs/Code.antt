@@ -4,10 +4,10 @@ use mathlib.Core.Path.{_≡_}
 use mathlib.Core.List.{List}
 use lib.ListN.{length}
 use Rattle.desk.specs.Lent.{Lent}
-use Rattle.desk.specs.Answer.{answerNumber, answerLine}
+use Rattle.answers.specs.Answer.{answerNumber, answerLine}
 use Rattle.desk.specs.Table.{answerOf}
 use Rattle.desk.specs.Declare.{Declared}
-use Rattle.desk.specs.declared.answer.Outcome.{Outcome}
+use Rattle.answers.specs.declared.answer.Outcome.{Outcome}
 
 -- a refusal's number is counted in these, and its line stands below them
 abbrev pub numberUnit : ℕ

@@ -4,8 +4,8 @@ use mathlib.Core.Path.{_≡_}
 use mathlib.Core.List.{List}
 use lib.ListN.{length}
 use Rattle.desk.specs.Lent.{Lent}
-use Rattle.desk.specs.Answer.{fileRule}
-use Rattle.desk.specs.declared.answer.FileFault.the-variants.{ResultTooShort}
+use Rattle.answers.specs.Answer.{fileRule}
+use Rattle.answers.specs.declared.answer.FileFault.the-variants.{ResultTooShort}
 use Rattle.report.specs.Report.{reportOf, writtenOf, Reported}
 use Rattle.report.specs.declared.Written.{Written}
 use Rattle.report.specs.declared.Written.the-variants.{Bytes, Short}

@@ -20,27 +20,26 @@ use Rattle.settle.specs.Shown.{sum}
 use Rattle.desk.specs.Book.{techniqueBlock, techniqueEfficiency, bookOk, mostCoefficient}
 use Rattle.desk.specs.Row.{rowOf}
 use Rattle.desk.specs.Technique.{techniqueHas, techniqueIndex}
-use Rattle.desk.specs.Reading.{goesWith, shareOf}
+use Rattle.shares.specs.Share.{shareBy}
 use Rattle.desk.specs.Line.{mostKilograms, lineOf}
 use Rattle.desk.specs.Lent.{Lent}
 use Rattle.desk.specs.Cells.{width, cellsOf, rowFrom}
 use Rattle.desk.specs.Account.{treated, byTechnique, treatmentOf, generatedOf, inWater, byTreatment, byRow}
 use Rattle.desk.specs.Account.{excessive, accountOf, lineOutcome}
 use Rattle.desk.specs.Inner.{Moderate, GoodRow}
-use Rattle.desk.specs.declared.answer.LineFault.the-variants.{WrongKind}
 use Rattle.desk.specs.declared.line.Line.{Line}
 use Rattle.desk.specs.declared.row.Row.{Row}
 use Rattle.desk.specs.declared.row.RowSearch.{RowSearch}
 use Rattle.desk.specs.declared.row.RowSearch.the-variants.{Hit, Miss}
-use Rattle.desk.specs.declared.reading.Reading.{Reading}
-use Rattle.desk.specs.declared.reading.Share.{Share}
-use Rattle.desk.specs.declared.reading.Share.the-variants.{Part, NoShare}
+use Rattle.shares.specs.declared.share.Reading.{Reading}
+use Rattle.shares.specs.declared.share.Share.{Share}
+use Rattle.shares.specs.declared.share.Share.the-variants.{Part, OtherKind, Unusable, OfNothing, AboveWhole}
 use Rattle.desk.specs.declared.account.Treatment.{Treatment}
 use Rattle.desk.specs.declared.account.Treatment.the-variants.{By, NoTreatment}
 use Rattle.desk.specs.declared.account.LineOutcome.{LineOutcome}
 use Rattle.desk.specs.declared.account.LineOutcome.the-variants.{Given, Refusal}
 use Rattle.desk.proofs.LawColumns.{Balanced}
-use Rattle.desk.proofs.LawReading.{Fair, share-fair}
+use Rattle.shares.proofs.LawShare.{Fair, share-fair}
 use Rattle.desk.proofs.LawRow.{hit-good}
 
 -- what rule 4 leaves
@@ -67,7 +66,10 @@ module _ (G e n d u : ℕ) (water : Bool) (w : Worked) (ok : Admissible e n d u)
 module _ (u : ℕ) (reuse : u ≤ wholeShare) where
   treated-admissible : (k : ℕ) (share : Share) → k ≤ wholeShare → ((n d : ℕ) → share ≡ Part n d → Fair n d)
       → (e n d : ℕ) → treated k share ≡ By e n d → Admissible e n d u
-  treated-admissible k (NoShare fault) most fair e n d h = clash (cc)
+  treated-admissible k OtherKind most fair e n d h = clash (cc)
+  treated-admissible k Unusable most fair e n d h = clash (cc)
+  treated-admissible k OfNothing most fair e n d h = clash (cc)
+  treated-admissible k AboveWhole most fair e n d h = clash (cc)
   treated-admissible k (Part a b) most fair e n d h =
       let p : k ≡ e = cc in
       let q : a ≡ n = cc in
@@ -80,9 +82,7 @@ module _ (u : ℕ) (reuse : u ≤ wholeShare) where
         → (e n d : ℕ) → byTechnique t row reading f ≡ By e n d → Admissible e n d u
     technique-admissible Nothing below e n d h = clash (cc)
     technique-admissible (At j) below e n d h =
-        either-way (goesWith reading (row .rule))
-        (λ g. treated-admissible _ (shareOf reading) (good .efficiency j (below j refl)) (share-fair reading) e n d (rw g at h))
-        (λ g. let r : NoTreatment WrongKind ≡ By e n d = rw g at h in clash (cc))
+        treated-admissible _ (shareBy reading (row .rule)) (good .efficiency j (below j refl)) (share-fair reading (row .rule)) e n d h
 
     pub treatment-admissible : (technique e n d : ℕ) → treatmentOf t row technique reading ≡ By e n d → Admissible e n d u
     unfolding treatmentOf techniqueIndex

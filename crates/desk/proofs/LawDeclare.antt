@@ -27,8 +27,8 @@ use Rattle.desk.specs.Unit.{gram, kilogram, tonne, unitOf, unitOfSheet}
 use Rattle.desk.specs.Demands.{tableGrid, Demand3}
 use Rattle.desk.specs.Declare.{shownAfter, BothAfter}
 use Rattle.desk.specs.Inner.{Showable, shownOver}
-use Rattle.desk.specs.declared.answer.Outcome.{Outcome}
-use Rattle.desk.specs.declared.answer.Outcome.the-variants.{Accepted, RefusedFile, RefusedLine}
+use Rattle.answers.specs.declared.answer.Outcome.{Outcome}
+use Rattle.answers.specs.declared.answer.Outcome.the-variants.{Accepted, RefusedFile, RefusedLine}
 use Rattle.desk.specs.declared.account.LineOutcome.{LineOutcome}
 use Rattle.desk.proofs.LawAccount.{Balances, lineMost, line-balances}
 use Rattle.desk.proofs.LawColumns.{zip, zip-at, zeros-at, Balanced, balanced-cell, balanced-wider, row-adds-up}

@@ -23,7 +23,7 @@ use Rattle.desk.specs.Line.{lineOf}
 use Rattle.desk.specs.Sheet.{sheetOk, lineCount, mostLines}
 use Rattle.desk.specs.Cells.{width, tableSize, cellsOf}
 use Rattle.desk.specs.Account.{treatmentOf, generatedOf, inWater, byTreatment, byRow, excessive, accountOf, lineOutcome}
-use Rattle.desk.specs.Answer.{fileRule, lineRule, answerNumber, answerLine}
+use Rattle.answers.specs.Answer.{fileRule, lineRule, answerNumber, answerLine}
 use Rattle.desk.specs.Table.{rowGiven, rows, total, tableOf, byFiles, orLine, byLines, orElseLines, answerOf, cellsAfter}
 use Rattle.desk.specs.Unit.{unitOfSheet}
 use Rattle.desk.specs.Demands.{OfFile, OfLine, tableGrid, Demand1, LineDemand, cellAt, Demand2, Demand3}
@@ -37,12 +37,12 @@ use Rattle.desk.specs.declared.account.Treatment.{Treatment}
 use Rattle.desk.specs.declared.account.Treatment.the-variants.{By, NoTreatment}
 use Rattle.desk.specs.declared.account.LineOutcome.{LineOutcome}
 use Rattle.desk.specs.declared.account.LineOutcome.the-variants.{Given, Refusal}
-use Rattle.desk.specs.declared.answer.FileFault.{FileFault}
-use Rattle.desk.specs.declared.answer.FileFault.the-variants.{BookMalformed, SheetMalformed, ResultTooShort}
-use Rattle.desk.specs.declared.answer.LineFault.{LineFault}
-use Rattle.desk.specs.declared.answer.LineFault.the-variants as of
-use Rattle.desk.specs.declared.answer.Outcome.{Outcome}
-use Rattle.desk.specs.declared.answer.Outcome.the-variants.{Accepted, RefusedFile, RefusedLine}
+use Rattle.answers.specs.declared.answer.FileFault.{FileFault}
+use Rattle.answers.specs.declared.answer.FileFault.the-variants.{BookMalformed, SheetMalformed, ResultTooShort}
+use Rattle.answers.specs.declared.answer.LineFault.{LineFault}
+use Rattle.answers.specs.declared.answer.LineFault.the-variants as of
+use Rattle.answers.specs.declared.answer.Outcome.{Outcome}
+use Rattle.answers.specs.declared.answer.Outcome.the-variants.{Accepted, RefusedFile, RefusedLine}
 use Rattle.desk.specs.declared.cells.TableRow.{TableRow}
 use Rattle.desk.proofs.LawColumns.{sum-same}
 use Rattle.desk.proofs.LawAccount.{line-sound, line-balances}

@@ -7,7 +7,7 @@ use Rattle.desk.specs.Sheet.{lineCount}
 use Rattle.desk.specs.Account.{lineOutcome}
 use Rattle.desk.specs.Table.{cellsAfter, ExactTable}
 use Rattle.desk.specs.Declare.{shownAfter, Declared}
-use Rattle.desk.specs.declared.answer.Outcome.{Outcome}
+use Rattle.answers.specs.declared.answer.Outcome.{Outcome}
 
 pub exact-table-once : (f : Lent) (cells : List ℕ) (r q : Outcome) (x y : List ℕ) → ExactTable f cells r x → ExactTable f cells q y
     → (r ≡ q) × (x ≡ y)

@@ -27,9 +27,9 @@ use Rattle.desk.specs.Table.{rows, total, tableOf, byFiles, byLines, ans
 use Rattle.desk.specs.Declare.{Declared}
 use Rattle.desk.specs.declared.line.Line.{Line}
 use Rattle.desk.specs.declared.account.LineOutcome.the-variants.{Refusal}
-use Rattle.desk.specs.declared.answer.LineFault.the-variants.{ActivityTooLarge, ReuseTooLarge}
-use Rattle.desk.specs.declared.answer.Outcome.{Outcome}
-use Rattle.desk.specs.declared.answer.Outcome.the-variants.{Accepted}
+use Rattle.answers.specs.declared.answer.LineFault.the-variants.{ActivityTooLarge, ReuseTooLarge}
+use Rattle.answers.specs.declared.answer.Outcome.{Outcome}
+use Rattle.answers.specs.declared.answer.Outcome.the-variants.{Accepted}
 
 -- a book of one row: particulates in gas of industry 3240, 1 g/t of product (100 units a kilogram), no techniques
 abbrev book : List ℕ

@@ -23,10 +23,10 @@ use Rattle.desk.specs.Cells.{width, tableSize, cellsOf, zeros, plus}
 use Rattle.desk.specs.Tally.{add}
 use Rattle.desk.specs.Table.{rowGiven, rows, total, tableOf, byFiles, byLines, orElseLines, cellsAfter}
 use Rattle.desk.specs.Inner.{Fitting, Ready, Fillable, withRow}
-use Rattle.desk.specs.declared.answer.LineFault.{LineFault}
-use Rattle.desk.specs.declared.answer.Outcome.{Outcome}
-use Rattle.desk.specs.declared.answer.Outcome.the-variants.{Accepted, RefusedFile, RefusedLine}
-use Rattle.desk.proofs.answer.Outcome.{the-type}
+use Rattle.answers.specs.declared.answer.LineFault.{LineFault}
+use Rattle.answers.specs.declared.answer.Outcome.{Outcome}
+use Rattle.answers.specs.declared.answer.Outcome.the-variants.{Accepted, RefusedFile, RefusedLine}
+use Rattle.answers.proofs.answer.Outcome.{the-type}
 use Rattle.desk.specs.declared.account.LineOutcome.{LineOutcome}
 use Rattle.desk.specs.declared.account.LineOutcome.the-variants.{Given, Refusal}
 use Rattle.desk.specs.declared.cells.TableRow.{TableRow}

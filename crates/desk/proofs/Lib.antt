@@ -4,7 +4,6 @@ pub mod LawRun
 pub mod LawOrder
 pub mod LawRow
 pub mod LawTechnique
-pub mod LawReading
 pub mod LawAccount
 pub mod LawTable
 pub mod LawDeclare

@@ -9,18 +9,19 @@ use Rattle.amounts.specs.Line.{wholeShare, amountsOf}
 use Rattle.desk.specs.Book.{techniqueBlock, techniqueEfficiency}
 use Rattle.desk.specs.Row.{rowOf}
 use Rattle.desk.specs.Technique.{techniqueIndex}
-use Rattle.desk.specs.Reading.{goesWith, shareOf}
+use Rattle.shares.specs.Share.{shareBy}
 use Rattle.desk.specs.Line.{mostKilograms, lineOf}
 use Rattle.desk.specs.Lent.{Lent}
 use Rattle.desk.specs.Cells.{rowFrom}
-use Rattle.desk.specs.declared.answer.LineFault.the-variants.{ActivityTooLarge, ReuseTooLarge, NoRow, NoTechnique, WrongKind}
+use Rattle.answers.specs.declared.answer.LineFault.the-variants.{ActivityTooLarge, ReuseTooLarge, NoRow, NoTechnique, WrongKind, BadReading}
+use Rattle.answers.specs.declared.answer.LineFault.the-variants.{ZeroDivisor, KAboveOne}
 use Rattle.desk.specs.declared.line.Line.{Line}
 use Rattle.desk.specs.declared.row.Row.{Row}
 use Rattle.desk.specs.declared.row.RowSearch.{RowSearch}
 use Rattle.desk.specs.declared.row.RowSearch.the-variants.{Hit, Miss}
-use Rattle.desk.specs.declared.reading.Reading.{Reading}
-use Rattle.desk.specs.declared.reading.Share.{Share}
-use Rattle.desk.specs.declared.reading.Share.the-variants.{Part, NoShare}
+use Rattle.shares.specs.declared.share.Reading.{Reading}
+use Rattle.shares.specs.declared.share.Share.{Share}
+use Rattle.shares.specs.declared.share.Share.the-variants.{Part, OtherKind, Unusable, OfNothing, AboveWhole}
 use Rattle.desk.specs.declared.account.Treatment.{Treatment}
 use Rattle.desk.specs.declared.account.Treatment.the-variants.{By, NoTreatment}
 use Rattle.desk.specs.declared.account.LineOutcome.{LineOutcome}
@@ -29,13 +30,15 @@ use Rattle.desk.specs.declared.account.LineOutcome.the-variants.{Given, 
 -- the efficiency with k
 abbrev pub treated : (e : ℕ) (k : Share) → Treatment
 treated e (Part n d) = By e n d
-treated e (NoShare fault) = NoTreatment fault
+treated e OtherKind = NoTreatment WrongKind
+treated e Unusable = NoTreatment BadReading
+treated e OfNothing = NoTreatment ZeroDivisor
+treated e AboveWhole = NoTreatment KAboveOne
 
--- the technique at place j of the row's list, with a reading of a kind that goes with the row's k rule
+-- the technique at place j of the row's list, with k by the row's k rule
 abbrev pub byTechnique : (t : List ℕ) (row : Row) (reading : Reading) (place : Found) → Treatment
 byTechnique t row reading Nothing = NoTreatment NoTechnique
-byTechnique t row reading (At j) =
-    cond (goesWith reading (row .rule)) (treated (techniqueEfficiency t (row .first + j)) (shareOf reading)) (NoTreatment WrongKind)
+byTechnique t row reading (At j) = treated (techniqueEfficiency t (row .first + j)) (shareBy reading (row .rule))
 
 -- technique 0 is direct discharge: efficiency and k are 0, and the reading is not looked at
 unfoldable pub treatmentOf : (t : List ℕ) (row : Row) (technique : ℕ) (reading : Reading) → Treatment

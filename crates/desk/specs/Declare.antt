@@ -11,8 +11,8 @@ use Rattle.desk.specs.Cells.{tableSize}
 use Rattle.desk.specs.Unit.{unitOfSheet}
 use Rattle.desk.specs.Table.{tableOf, cellsAfter}
 use Rattle.desk.specs.Demands.{tableGrid, Demand1, Demand2, Demand3}
-use Rattle.desk.specs.declared.answer.Outcome.{Outcome}
-use Rattle.desk.specs.declared.answer.Outcome.the-variants.{Accepted, RefusedFile, RefusedLine}
+use Rattle.answers.specs.declared.answer.Outcome.{Outcome}
+use Rattle.answers.specs.declared.answer.Outcome.the-variants.{Accepted, RefusedFile, RefusedLine}
 
 -- on acceptance the shown table, and past it what was there; on refusal zeros
 unfoldable pub shownAfter : (r : Outcome) (f : Lent) (cells : List ℕ) → List ℕ

@@ -14,15 +14,15 @@ use Rattle.desk.specs.Sheet.{lineCount}
 use Rattle.desk.specs.Line.{lineOf}
 use Rattle.desk.specs.Cells.{width, discharged, tableSize}
 use Rattle.desk.specs.Account.{treatmentOf, generatedOf, inWater}
-use Rattle.desk.specs.Answer.{answerNumber, answerLine}
+use Rattle.answers.specs.Answer.{answerNumber, answerLine}
 use Rattle.desk.specs.Table.{answerOf}
 use Rattle.desk.specs.Unit.{unitOfSheet}
 use Rattle.desk.specs.declared.line.Line.{Line}
 use Rattle.desk.specs.declared.row.Row.{Row}
 use Rattle.desk.specs.declared.row.RowSearch.the-variants.{Hit}
 use Rattle.desk.specs.declared.account.Treatment.the-variants.{By}
-use Rattle.desk.specs.declared.answer.Outcome.{Outcome}
-use Rattle.desk.specs.declared.answer.Outcome.the-variants.{Accepted}
+use Rattle.answers.specs.declared.answer.Outcome.{Outcome}
+use Rattle.answers.specs.declared.answer.Outcome.the-variants.{Accepted}
 
 -- ---- 1. Figures, or one of eleven numbered refusals, each given exactly when its rule says, with the line it concerns. A refusal
 -- ---- leaves every result cell zero.

@@ -6,11 +6,9 @@ pub mod Row
 pub mod Technique
 pub mod Sheet
 pub mod Unit
-pub mod Reading
 pub mod Line
 pub mod Cells
 pub mod Account
-pub mod Answer
 pub mod Tally
 pub mod Table
 pub mod Demands

@@ -8,8 +8,8 @@ use Rattle.little.specs.Read.{u16At, u64At}
 use Rattle.desk.specs.Key.{keyFrom}
 use Rattle.desk.specs.Sheet.{sheetHeader, lineStart, kindAt}
 use Rattle.desk.specs.declared.line.Line.{Line}
-use Rattle.desk.specs.declared.reading.Reading.{Reading}
-use Rattle.desk.specs.declared.reading.Reading.the-variants.{None, Hours, Energy, Throughout}
+use Rattle.shares.specs.declared.share.Reading.{Reading}
+use Rattle.shares.specs.declared.share.Reading.the-variants.{None, Hours, Energy, Throughout}
 
 -- product and material, at most
 abbrev pub mostKilograms : ℕ

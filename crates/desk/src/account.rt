@@ -4,12 +4,11 @@ ghost use mathlib.Core.Bool.{true};
 ghost use Prim.Native.Nat.{_<_};
 ghost use Rattle.amounts.specs.Line.{Admissible, amountsOf};
 ghost use Rattle.desk.specs.Book.{bookOk, techniqueBlock};
-ghost use Rattle.desk.specs.Reading.{shareOf};
+ghost use Rattle.shares.specs.Share.{shareBy};
 ghost use Rattle.desk.specs.Row.{rowOf};
 ghost use Rattle.desk.specs.Lent.{lent};
 ghost use Rattle.desk.specs.Account.{treated, treatmentOf, generatedOf, byTreatment, byRow, accountOf, lineOutcome};
 ghost use Rattle.desk.specs.Inner.{Listed, SmallKey, SmallProduct, SmallRow, Treatable, Accountable, LineReady};
-use super::answer::LineFault;
 use super::book::technique_block;
 use super::cells::TableRow;
 use super::cells::row_from;
@@ -17,10 +16,6 @@ use super::line::Line;
 use super::line::MOST_KILOGRAMS;
 use super::line::WHOLE_SHARE;
 use super::line::line_of;
-use super::reading::Reading;
-use super::reading::Share;
-use super::reading::goes_with;
-use super::reading::share_of;
 use super::row::Row;
 use super::row::RowSearch;
 use super::row::row_of;
@@ -29,7 +24,11 @@ use super::technique::technique_index;
 use amounts::line::Amounts;
 use amounts::line::Worked;
 use amounts::line::work;
+use answers::answer::LineFault;
 use search::found::Found;
+use shares::share::Reading;
+use shares::share::Share;
+use shares::share::share_by;
 
 // The efficiency with k as n over d, or what is wrong.
 pub enum Treatment {
@@ -43,12 +42,15 @@ pub enum LineOutcome {
     Refusal(LineFault),
 }
 
-fn treated(efficiency: usize, reading: Reading) -> Treatment
-    ensures { λ r. ⌜ r ≡ treated efficiency (shareOf reading) ⌝ }
+fn treated(efficiency: usize, reading: Reading, rule: usize) -> Treatment
+    ensures { λ r. ⌜ r ≡ treated efficiency (shareBy reading rule) ⌝ }
 {
-    match share_of(reading) {
+    match share_by(reading, rule) {
         Share::Part(n, d) => Treatment::By(efficiency, n, d),
-        Share::NoShare(fault) => Treatment::NoTreatment(fault),
+        Share::OtherKind => Treatment::NoTreatment(LineFault::WrongKind),
+        Share::Unusable => Treatment::NoTreatment(LineFault::BadReading),
+        Share::OfNothing => Treatment::NoTreatment(LineFault::ZeroDivisor),
+        Share::AboveWhole => Treatment::NoTreatment(LineFault::KAboveOne),
     }
 }
 
@@ -62,13 +64,7 @@ fn treatment_of(t: &[u8], row: Row, technique: usize, reading: Reading) -> Treat
     }
     match technique_index(t, row.first, row.techniques, technique) {
         Found::Nothing => Treatment::NoTreatment(LineFault::NoTechnique),
-        Found::At(j) => {
-            if goes_with(reading, row.rule) {
-                treated(efficiency_at(t, row.first + j), reading)
-            } else {
-                Treatment::NoTreatment(LineFault::WrongKind)
-            }
-        }
+        Found::At(j) => treated(efficiency_at(t, row.first + j), reading, row.rule),
     }
 }
 

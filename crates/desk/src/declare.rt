@@ -5,13 +5,13 @@ ghost use lib.ListN.{length};
 ghost use Rattle.desk.specs.Lent.{lent};
 ghost use Rattle.desk.specs.Declare.{Declared};
 ghost use Rattle.desk.specs.Inner.{Ready, Showable, shownOver, LinesDeclared};
-use super::answer::Outcome;
 use super::cells::COLUMNS;
 use super::cells::DISCHARGED;
 use super::sheet::line_count;
 use super::table::by_files;
 use super::table::fill;
 use super::unit::unit_of;
+use answers::answer::Outcome;
 use little::cells::clear;
 
 fn shorter(a: usize, b: usize) -> usize

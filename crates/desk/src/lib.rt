@@ -1,6 +1,5 @@
 // The desk: it reads a coefficient book and a sheet, and accounts for the sheet's lines. It relies on `amounts` only through its promises.
 mod account;
-pub mod answer;
 pub mod book;
 pub mod cells;
 pub mod declare;
@@ -8,7 +7,6 @@ pub mod house;
 mod inside;
 pub mod key;
 pub mod line;
-pub mod reading;
 mod row;
 mod run;
 pub mod sheet;

@@ -9,10 +9,10 @@ use super::inside::u16_in;
 use super::inside::u64_in;
 use super::key::Key;
 use super::key::key_from;
-use super::reading::EnergyReading;
-use super::reading::Reading;
 use super::sheet::line_start;
 use amounts::reading::from_bits;
+use shares::share::EnergyReading;
+use shares::share::Reading;
 
 // Efficiency and reuse are in tenths of a percent.
 pub const WHOLE_SHARE: usize = amounts::line::WHOLE_SHARE as usize;

@@ -7,8 +7,6 @@ ghost use Rattle.desk.specs.Table.{roomFor, byFiles, ExactTable};
 ghost use Rattle.desk.specs.Inner.{counted, Fillable, Filled};
 use super::account::LineOutcome;
 use super::account::line_outcome;
-use super::answer::FileFault;
-use super::answer::Outcome;
 use super::book::book_ok;
 use super::cells::COLUMNS;
 use super::cells::put_row;
@@ -16,6 +14,8 @@ use super::sheet::MOST_LINES;
 use super::sheet::line_count;
 use super::sheet::sheet_ok;
 use super::tally::Tally;
+use answers::answer::FileFault;
+use answers::answer::Outcome;
 use little::cells::clear;
 
 // Cells that are enough for every sheet.

@@ -14,12 +14,12 @@ use Rattle.desk.specs.Sheet.{lineCount, mostLines}
 use Rattle.desk.specs.Account.{lineOutcome}
 use Rattle.desk.specs.Cells.{tableSize}
 use Rattle.desk.specs.Unit.{unitOfSheet}
-use Rattle.desk.specs.Answer.{answerNumber, answerLine}
+use Rattle.answers.specs.Answer.{answerNumber, answerLine}
 use Rattle.desk.specs.Table.{answerOf}
 use Rattle.desk.specs.Declare.{shownAfter, Declared}
 use Rattle.desk.specs.Inner.{Ready}
-use Rattle.desk.specs.declared.answer.Outcome.{Outcome}
-use Rattle.desk.specs.declared.answer.Outcome.the-variants.{Accepted, RefusedFile, RefusedLine}
+use Rattle.answers.specs.declared.answer.Outcome.{Outcome}
+use Rattle.answers.specs.declared.answer.Outcome.the-variants.{Accepted, RefusedFile, RefusedLine}
 use Rattle.desk.proofs.LawTable.{ready, lines-few}
 use Rattle.desk.proofs.LawDemands.{accepted}
 use Rattle.desk.proofs.LawDeclare.{first-cells, settles}

@@ -13,11 +13,11 @@ use Rattle.desk.specs.Sheet.{lineCount, mostLines}
 use Rattle.desk.specs.Account.{lineOutcome}
 use Rattle.desk.specs.Cells.{width, tableSize}
 use Rattle.desk.specs.Unit.{unitOfSheet}
-use Rattle.desk.specs.Answer.{fileRule, lineRule}
+use Rattle.answers.specs.Answer.{fileRule, lineRule}
 use Rattle.desk.specs.Table.{tableOf, answerOf}
 use Rattle.desk.specs.Demands.{cellAt, tableGrid}
-use Rattle.desk.specs.declared.answer.Outcome.{Outcome}
-use Rattle.desk.specs.declared.answer.Outcome.the-variants.{Accepted, RefusedFile, RefusedLine}
+use Rattle.answers.specs.declared.answer.Outcome.{Outcome}
+use Rattle.answers.specs.declared.answer.Outcome.the-variants.{Accepted, RefusedFile, RefusedLine}
 use Rattle.report.specs.declared.Written.{Written}
 use Rattle.report.specs.declared.Written.the-variants.{Bytes, Short}
 

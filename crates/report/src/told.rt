@@ -9,7 +9,7 @@ ghost use Rattle.report.specs.Inner.{reach, mostRefusal, Puts};
 use super::put::number;
 use super::put::put;
 use super::rows::table;
-use desk::answer::Outcome;
+use answers::answer::Outcome;
 use desk::cells::COLUMNS;
 use desk::declare::declare;
 use desk::sheet::line_count;

@@ -15,14 +15,14 @@ returns c = rw (eq-eqb _ _ (c .if1 .taken))
 
 add-efficiency-at : tie.Need-add-efficiency-at
 add-efficiency-at c =
-    let technique-index = c .before .before .before .before .before .before .technique-index in
-    let j = c .before .before .before .before .j in
+    let technique-index = c .before .before .before .before .technique-index in
+    let j = c .before .before .j in
     omega (arith, rw (j .given .1) at (technique-index .ensures .below))
 
 efficiency-at-requires : tie.Need-efficiency-at-requires
 efficiency-at-requires c κs =
-    let technique-index = c .before .before .before .before .before .before .technique-index in
-    let j = c .before .before .before .before .j in
+    let technique-index = c .before .before .before .before .technique-index in
+    let j = c .before .before .j in
     omega (arith, rw (j .given .1) at (technique-index .ensures .below))
 
 returns-2 : tie.Need-returns-2
@@ -35,23 +35,13 @@ returns-2 c =
 returns-3 : tie.Need-returns-3
 unfolding treatmentOf
 returns-3 c =
-    let if1 = c .before .before .before .before .before .before .before .before .before .if1 in
-    let technique-index = c .before .before .before .before .before .before .before .before .technique-index in
-    let j = c .before .before .before .before .before .before .j in
-    let goes-with = c .before .before .before .before .goes-with in
-    let if2 = c .before .before .before .if2 in
-    rw (ne-eqb _ _ (if1 .left), ← technique-index .ensures .eq, j .given .1, ← goes-with .ensures, if2 .taken, ← c .before .efficiency-at .ensures .eq) (c .treated .ensures)
-
-returns-4 : tie.Need-returns-4
-unfolding treatmentOf
-returns-4 c =
-    let if1 = c .before .before .before .before .before .before .if1 in
-    let technique-index = c .before .before .before .before .before .technique-index in
-    let j = c .before .before .before .j in
-    rw (ne-eqb _ _ (if1 .left), ← technique-index .ensures .eq, j .given .1, ← c .before .goes-with .ensures, c .if2 .left)
+    let if1 = c .before .before .before .before .before .before .before .if1 in
+    let technique-index = c .before .before .before .before .before .before .technique-index in
+    let j = c .before .before .before .before .j in
+    rw (ne-eqb _ _ (if1 .left), ← technique-index .ensures .eq, j .given .1, ← c .before .efficiency-at .ensures .eq) (c .treated .ensures)
 
 pub treatment-of-spec : {M : Type 1} → statement M
 treatment-of-spec =
     tie.close
-    (tie.spec returns technique-index-requires (λ c. search needs) (λ c. search needs) (λ c κs. search needs) add-efficiency-at
-    efficiency-at-requires (λ c κs. search needs) returns-2 returns-3 returns-4)
+    (tie.spec returns technique-index-requires (λ c. search needs) (λ c. search needs) add-efficiency-at efficiency-at-requires
+    (λ c κs. search needs) returns-2 returns-3)

@@ -6,7 +6,7 @@ use native.Mathlib.Omega.{arith}
 use lib.ListN.{length, drop, replicate}
 use borrow.Author.Needs.{needs}
 use denote.Ref.{now}
-use Rattle.desk.specs.declared.answer.Outcome.the-variants.{Accepted}
+use Rattle.answers.specs.declared.answer.Outcome.the-variants.{Accepted}
 use Rattle.desk.specs.Table.{rows, total, byLines}
 use Rattle.search.proofs.LawTest.{clash}
 use Rattle.desk.specs.Cells.{width}

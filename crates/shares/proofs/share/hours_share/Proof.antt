@@ -1,9 +1,9 @@
 -- Both readings are taken or refused, in this order.
 use borrow.Author.Needs.{needs}
-use Rattle.desk.specs.Reading.{hoursShare}
-use Rattle.desk.proofs.LawReading.{not-taken, taken}
-use Rattle.desk.proofs.reading.hours_share.Statement.{statement}
-use Rattle.desk.proofs.reading.hours_share.Tie as tie
+use Rattle.shares.specs.Share.{hoursShare}
+use Rattle.shares.proofs.LawShare.{not-taken, taken}
+use Rattle.shares.proofs.share.hours_share.Statement.{statement}
+use Rattle.shares.proofs.share.hours_share.Tie as tie
 
 returns : tie.Need-returns
 unfolding hoursShare

@@ -1,4 +1,4 @@
--- A line's meter reading, and k = n over d.
+-- A meter reading, and k = n over d: for which share of the production a treatment ran.
 use Prim.Native.Nat.{ℕ, _*_}
 use mathlib.Core.Bool.{Bool, false, _||_, cond}
 use lib.Dec.{leb, eqb}
@@ -6,13 +6,11 @@ use lib.Ieee.{Float}
 use Rattle.amounts.specs.Reading.{partsPerUnit, takenOf}
 use Rattle.amounts.specs.declared.reading.Taken.{Taken}
 use Rattle.amounts.specs.declared.reading.Taken.the-variants.{Is, Over, Bad}
-use Rattle.desk.specs.declared.answer.LineFault.{LineFault}
-use Rattle.desk.specs.declared.answer.LineFault.the-variants.{WrongKind, BadReading, ZeroDivisor, KAboveOne}
-use Rattle.desk.specs.declared.reading.EnergyReading.{EnergyReading}
-use Rattle.desk.specs.declared.reading.Reading.{Reading}
-use Rattle.desk.specs.declared.reading.Reading.the-variants.{None, Hours, Energy, Throughout}
-use Rattle.desk.specs.declared.reading.Share.{Share}
-use Rattle.desk.specs.declared.reading.Share.the-variants.{Part, NoShare}
+use Rattle.shares.specs.declared.share.EnergyReading.{EnergyReading}
+use Rattle.shares.specs.declared.share.Reading.{Reading}
+use Rattle.shares.specs.declared.share.Reading.the-variants.{None, Hours, Energy, Throughout}
+use Rattle.shares.specs.declared.share.Share.{Share}
+use Rattle.shares.specs.declared.share.Share.the-variants.{Part, OtherKind, Unusable, OfNothing, AboveWhole}
 
 -- hours go with k rule 1, energy with 2, throughout with either, none with none
 unfoldable pub goesWith : Reading → ℕ → Bool
@@ -43,13 +41,13 @@ kwhOf x = takenOf partsPerUnit mostKilowattHours x
 
 -- k, which has a divisor and is not above 1
 unfoldable pub ratio : ℕ → ℕ → Share
-ratio n d = cond (eqb d 0) (NoShare ZeroDivisor) (cond (leb n d) (Part n d) (NoShare KAboveOne))
+ratio n d = cond (eqb d 0) OfNothing (cond (leb n d) (Part n d) AboveWhole)
 
 -- what comes of a reading, unless it is bad or over its limit
 unfoldable pub ifTaken : Taken → (ℕ → Share) → Share
 ifTaken (Is t) f = f t
-ifTaken Over f = NoShare BadReading
-ifTaken Bad f = NoShare BadReading
+ifTaken Over f = Unusable
+ifTaken Bad f = Unusable
 
 -- run / production
 unfoldable pub hoursShare : Float → Float → Share
@@ -62,7 +60,11 @@ energyShare e =
     (λ kwh. ifTaken (kwOf (e .kw)) (λ kw. ifTaken (hoursOf (e .hours)) (λ hours. ratio (kwh * partsPerUnit) (kw * hours))))
 
 unfoldable pub shareOf : Reading → Share
-shareOf None = NoShare WrongKind
+shareOf None = OtherKind
 shareOf (Hours run production) = hoursShare run production
 shareOf (Energy e) = energyShare e
 shareOf Throughout = Part 1 1
+
+-- k by a reading of a kind that goes with the k rule
+unfoldable pub shareBy : (reading : Reading) (rule : ℕ) → Share
+shareBy reading rule = cond (goesWith reading rule) (shareOf reading) OtherKind

@@ -1,8 +1,8 @@
 -- By the two tests.
 use borrow.Author.Tests.{eq-eqb, ne-eqb, le-leb, lt-leb}
-use Rattle.desk.specs.Reading.{ratio}
-use Rattle.desk.proofs.reading.ratio.Statement.{statement}
-use Rattle.desk.proofs.reading.ratio.Tie as tie
+use Rattle.shares.specs.Share.{ratio}
+use Rattle.shares.proofs.share.ratio.Statement.{statement}
+use Rattle.shares.proofs.share.ratio.Tie as tie
 
 returns : tie.Need-returns
 unfolding ratio

@@ -1,7 +1,6 @@
-// A meter reading, and k: the share of the production that the treatment ran for.
+// A meter reading, and k: the share of the production that a treatment ran for.
 ghost use mathlib.Core.Path.{_≡_};
-ghost use Rattle.desk.specs.Reading.{goesWith, ratio, hoursShare, energyShare, shareOf};
-use super::answer::LineFault;
+ghost use Rattle.shares.specs.Share.{goesWith, ratio, hoursShare, energyShare, shareOf, shareBy};
 use amounts::reading::PARTS_PER_UNIT;
 use amounts::reading::Taken;
 use amounts::reading::parts_of;
@@ -29,11 +28,18 @@ pub enum Reading {
 // k as n over d, or what is wrong.
 pub enum Share {
     Part(u64, u64),
-    NoShare(LineFault),
+    // the kind of reading does not go with the k rule
+    OtherKind,
+    // a number of the reading is not finite, below zero, or over its limit
+    Unusable,
+    // the divisor is 0
+    OfNothing,
+    // n is above d
+    AboveWhole,
 }
 
 // Kind 1 goes with k rule 1, kind 2 with k rule 2, kind 3 with either, kind 0 with none.
-pub(crate) fn goes_with(reading: Reading, rule: usize) -> bool
+fn goes_with(reading: Reading, rule: usize) -> bool
     ensures { λ r. ⌜ r ≡ goesWith reading rule ⌝ }
 {
     match reading {
@@ -51,24 +57,23 @@ fn ratio(n: u64, d: u64) -> Share
     ensures { λ r. ⌜ r ≡ ratio n d ⌝ }
 {
     if d == 0 {
-        return Share::NoShare(LineFault::ZeroDivisor);
+        return Share::OfNothing;
     }
     if n <= d {
         Share::Part(n, d)
     } else {
-        Share::NoShare(LineFault::KAboveOne)
+        Share::AboveWhole
     }
 }
 
 fn hours_share(run: f64, production: f64) -> Share
     ensures { λ r. ⌜ r ≡ hoursShare run production ⌝ }
 {
-    let bad = Share::NoShare(LineFault::BadReading);
     let Taken::Is(n) = parts_of(run, MOST_HOURS) else {
-        return bad;
+        return Share::Unusable;
     };
     let Taken::Is(d) = parts_of(production, MOST_HOURS) else {
-        return bad;
+        return Share::Unusable;
     };
     ratio(n, d)
 }
@@ -76,27 +81,38 @@ fn hours_share(run: f64, production: f64) -> Share
 fn energy_share(e: EnergyReading) -> Share
     ensures { λ r. ⌜ r ≡ energyShare e ⌝ }
 {
-    let bad = Share::NoShare(LineFault::BadReading);
     let Taken::Is(kwh) = parts_of(e.kwh, MOST_KILOWATT_HOURS) else {
-        return bad;
+        return Share::Unusable;
     };
     let Taken::Is(kw) = parts_of(e.kw, MOST_KILOWATTS) else {
-        return bad;
+        return Share::Unusable;
     };
     let Taken::Is(hours) = parts_of(e.hours, MOST_HOURS) else {
-        return bad;
+        return Share::Unusable;
     };
     ratio(kwh * PARTS_PER_UNIT, kw * hours)
 }
 
-// A line without a reading is refused before this is asked.
-pub(crate) fn share_of(reading: Reading) -> Share
+// Of the reading alone; no reading is of no kind that goes with a rule.
+fn share_of(reading: Reading) -> Share
     ensures { λ r. ⌜ r ≡ shareOf reading ⌝ }
 {
     match reading {
-        Reading::None => Share::NoShare(LineFault::WrongKind),
+        Reading::None => Share::OtherKind,
         Reading::Hours { run, production } => hours_share(run, production),
         Reading::Energy(e) => energy_share(e),
         Reading::Throughout => Share::Part(1, 1),
+    }
+}
+
+// k for a row of the book with this k rule, 1 hours or 2 energy. The kind is looked at first, then the numbers in their order, then the
+// divisor, then whether k is above 1. Under any other rule every reading is of another kind.
+pub fn share_by(reading: Reading, rule: usize) -> Share
+    ensures { λ r. ⌜ r ≡ shareBy reading rule ⌝ }
+{
+    if goes_with(reading, rule) {
+        share_of(reading)
+    } else {
+        Share::OtherKind
     }
 }

@@ -1,11 +1,11 @@
 -- "Refusal numbers": the desk's answer by the paper's number and line.
 use Prim.Native.Nat.{ℕ}
-use Rattle.desk.specs.declared.answer.FileFault.{FileFault}
-use Rattle.desk.specs.declared.answer.FileFault.the-variants.{BookMalformed, SheetMalformed, ResultTooShort}
-use Rattle.desk.specs.declared.answer.LineFault.{LineFault}
-use Rattle.desk.specs.declared.answer.LineFault.the-variants as line
-use Rattle.desk.specs.declared.answer.Outcome.{Outcome}
-use Rattle.desk.specs.declared.answer.Outcome.the-variants.{Accepted, RefusedFile, RefusedLine}
+use Rattle.answers.specs.declared.answer.FileFault.{FileFault}
+use Rattle.answers.specs.declared.answer.FileFault.the-variants.{BookMalformed, SheetMalformed, ResultTooShort}
+use Rattle.answers.specs.declared.answer.LineFault.{LineFault}
+use Rattle.answers.specs.declared.answer.LineFault.the-variants as line
+use Rattle.answers.specs.declared.answer.Outcome.{Outcome}
+use Rattle.answers.specs.declared.answer.Outcome.the-variants.{Accepted, RefusedFile, RefusedLine}
 
 abbrev pub fileRule : FileFault → ℕ
 fileRule BookMalformed = 1

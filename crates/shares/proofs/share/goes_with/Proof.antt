@@ -1,8 +1,8 @@
 -- By cases on the reading.
 use borrow.Author.Needs.{needs}
-use Rattle.desk.specs.Reading.{goesWith}
-use Rattle.desk.proofs.reading.goes_with.Statement.{statement}
-use Rattle.desk.proofs.reading.goes_with.Tie as tie
+use Rattle.shares.specs.Share.{goesWith}
+use Rattle.shares.proofs.share.goes_with.Statement.{statement}
+use Rattle.shares.proofs.share.goes_with.Tie as tie
 
 returns : tie.Need-returns
 unfolding goesWith

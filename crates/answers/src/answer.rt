@@ -1,6 +1,6 @@
 // What the desk answers: figures, or one refusal.
 ghost use mathlib.Core.Path.{_≡_};
-ghost use Rattle.desk.specs.Answer.{answerLine, answerNumber, fileRule, lineRule};
+ghost use Rattle.answers.specs.Answer.{answerLine, answerNumber, fileRule, lineRule};
 
 // What is wrong with a whole file or a whole result, in the order in which it is looked for.
 pub enum FileFault {

@@ -1,8 +1,8 @@
 -- By cases on the reading.
 use borrow.Author.Needs.{needs}
-use Rattle.desk.specs.Reading.{shareOf}
-use Rattle.desk.proofs.reading.share_of.Statement.{statement}
-use Rattle.desk.proofs.reading.share_of.Tie as tie
+use Rattle.shares.specs.Share.{shareOf}
+use Rattle.shares.proofs.share.share_of.Statement.{statement}
+use Rattle.shares.proofs.share.share_of.Tie as tie
 
 returns : tie.Need-returns
 unfolding shareOf

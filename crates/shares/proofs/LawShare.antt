@@ -17,19 +17,19 @@ use Rattle.amounts.specs.Line.{mostDivisor}
 use Rattle.amounts.specs.Reading.{partsPerUnit}
 use Rattle.amounts.proofs.LawReading.{taken-most}
 use Rattle.amounts.proofs.reading.Taken.{the-type}
-use Rattle.desk.specs.Reading.{mostHours, mostKilowatts, hoursOf, kwOf, kwhOf, ratio, ifTaken, hoursShare, energyShare, shareOf}
-use Rattle.desk.specs.declared.answer.LineFault.the-variants.{BadReading, ZeroDivisor, KAboveOne}
-use Rattle.desk.specs.declared.reading.Reading.{Reading}
-use Rattle.desk.specs.declared.reading.Reading.the-variants.{None, Hours, Energy, Throughout}
-use Rattle.desk.specs.declared.reading.Share.{Share}
-use Rattle.desk.specs.declared.reading.Share.the-variants.{Part, NoShare}
+use Rattle.shares.specs.Share.{mostHours, mostKilowatts, hoursOf, kwOf, kwhOf, ratio, ifTaken, hoursShare, energyShare}
+use Rattle.shares.specs.Share.{goesWith, shareOf, shareBy}
+use Rattle.shares.specs.declared.share.Reading.{Reading}
+use Rattle.shares.specs.declared.share.Reading.the-variants.{None, Hours, Energy, Throughout}
+use Rattle.shares.specs.declared.share.Share.{Share}
+use Rattle.shares.specs.declared.share.Share.the-variants.{Part, OtherKind, Unusable, OfNothing, AboveWhole}
 
 -- a reading whose case is the second or the third is refused
 pub taken : (x : Taken) (t : ℕ) → x ≡ Is t → (f : ℕ → Share) → ifTaken x f ≡ f t
 unfolding ifTaken
 taken x t e f = rw e
 
-pub not-taken : (x : Taken) (f : ℕ → Share) → OneOf (1 ∷ 2 ∷ []) (tagOf the-type x) → NoShare BadReading ≡ ifTaken x f
+pub not-taken : (x : Taken) (f : ℕ → Share) → OneOf (1 ∷ 2 ∷ []) (tagOf the-type x) → Unusable ≡ ifTaken x f
 unfolding ifTaken
 not-taken (Is t) f h = absurd (⊎-elim (λ (e : _≡_ {A = ℕ} 0 1). omega arith) (λ (e : _≡_ {A = ℕ} 0 2). omega arith) h)
 not-taken Over f h = refl
@@ -48,14 +48,14 @@ ratio-fair : (a b n d : ℕ) → b ≤ mostDivisor → ratio a b ≡ Part n d �
 unfolding ratio
 ratio-fair a b n d small h =
     either-way (eqb b 0)
-    (λ z. let r : NoShare ZeroDivisor ≡ Part n d = rw z at h in clash (cc))
+    (λ z. let r : OfNothing ≡ Part n d = rw z at h in clash (cc))
     (λ z. either-way (leb a b)
     (λ l.
     let r : Part a b ≡ Part n d = rw (z, l) at h in
     let p : a ≡ n = cc in
     let q : b ≡ d = cc in
     record { fraction = omega (arith, leb-true a b l); divisor = omega (arith, positive b z); size = omega arith })
-    (λ l. let r : NoShare KAboveOne ≡ Part n d = rw (z, l) at h in clash (cc)))
+    (λ l. let r : AboveWhole ≡ Part n d = rw (z, l) at h in clash (cc)))
 
 -- where a share comes out, the reading was taken
 part-taken : {P : Type 0} (x : Taken) (f : ℕ → Share) (n d : ℕ) → ifTaken x f ≡ Part n d → ((t : ℕ) → x ≡ Is t → f t ≡ Part n d → P) → P
@@ -64,14 +64,14 @@ part-taken (Is t) f n d h go = go t refl h
 part-taken Over f n d h go = clash (cc)
 part-taken Bad f n d h go = clash (cc)
 
-pub share-fair : (reading : Reading) (n d : ℕ) → shareOf reading ≡ Part n d → Fair n d
+of-fair : (reading : Reading) (n d : ℕ) → shareOf reading ≡ Part n d → Fair n d
 unfolding shareOf hoursShare energyShare
-share-fair None n d h = clash (cc)
-share-fair (Hours run production) n d h =
+of-fair None n d h = clash (cc)
+of-fair (Hours run production) n d h =
     part-taken (hoursOf run) _ n d h
     (λ a p g. part-taken (hoursOf production) _ n d g
     (λ b q r. ratio-fair a b n d (omega (arith, taken-most partsPerUnit mostHours b production q)) r))
-share-fair (Energy e) n d h =
+of-fair (Energy e) n d h =
     part-taken (kwhOf (e .kwh)) _ n d h
     (λ kwh p g. part-taken (kwOf (e .kw)) _ n d g
     (λ kw q r. part-taken (hoursOf (e .hours)) _ n d r
@@ -79,7 +79,14 @@ share-fair (Energy e) n d h =
     let most : kw * hours ≤ partsPerUnit * mostKilowatts * (partsPerUnit * mostHours) =
     mul-le-mul (taken-most partsPerUnit mostKilowatts kw (e .kw) q) (taken-most partsPerUnit mostHours hours (e .hours) s) in
     ratio-fair (kwh * partsPerUnit) (kw * hours) n d (omega arith) v)))
-share-fair Throughout n d h =
+of-fair Throughout n d h =
     let p : 1 ≡ n = cc in
     let q : 1 ≡ d = cc in
     record { fraction = omega arith; divisor = omega arith; size = omega arith }
+
+pub share-fair : (reading : Reading) (rule n d : ℕ) → shareBy reading rule ≡ Part n d → Fair n d
+unfolding shareBy
+share-fair reading rule n d h =
+    either-way (goesWith reading rule)
+    (λ g. of-fair reading n d (rw g at h))
+    (λ g. let r : OtherKind ≡ Part n d = rw g at h in clash (cc))

@@ -3,10 +3,10 @@ use mathlib.Core.Path.{sym, _∙_}
 use borrow.Author.Needs.{needs}
 use Rattle.little.proofs.LawNumber.{product-fits}
 use Rattle.amounts.proofs.LawReading.{taken-most}
-use Rattle.desk.specs.Reading.{energyShare}
-use Rattle.desk.proofs.LawReading.{not-taken, taken}
-use Rattle.desk.proofs.reading.energy_share.Statement.{statement}
-use Rattle.desk.proofs.reading.energy_share.Tie as tie
+use Rattle.shares.specs.Share.{energyShare}
+use Rattle.shares.proofs.LawShare.{not-taken, taken}
+use Rattle.shares.proofs.share.energy_share.Statement.{statement}
+use Rattle.shares.proofs.share.energy_share.Tie as tie
 
 returns : tie.Need-returns
 unfolding energyShare

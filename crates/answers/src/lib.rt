@@ -1,0 +1,2 @@
+// What the desk answers, and the number that each refusal has in the paper.
+pub mod answer;

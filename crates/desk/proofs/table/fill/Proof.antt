@@ -55,13 +55,31 @@ add-requires c κs =
     let row = c .before .before .before .before .before .row in
     tally-fits _ (line-balances (lent (now (entry .args .b)) (now (entry .args .s))) (entry .pre .book)) _ (omega arith) (loop .inv .3) (sym (line-outcome .ensures) ∙ row .given .1)
 
+add-t14 : tie.Need-add-t14 Inv-loop μ-loop
+add-t14 c = omega (arith, c .before .before .before .before .before .before .before .before .loop-test .taken, c .before .before .before .before .before .before .before .before .before .before .before .before .before .before .pre .few)
+
+cast-t15 : tie.Need-cast-t15 Inv-loop μ-loop
+cast-t15 c = omega (arith, c .before .before .before .before .before .before .before .before .loop-test .taken, c .before .before .before .before .before .before .before .before .before .before .before .before .before .before .pre .few)
+
+put-row-requires : tie.Need-put-row-requires Inv-loop μ-loop
+put-row-requires c κs = omega (arith, c .before .before .before .before .before .loop-test .taken, c .before .before .before .before .before .before .before .before .before .before .before .pre .fits, c .before .before .before .before .before .before .loop .inv .1)
+
+put-row-requires-2 : tie.Need-put-row-requires-2 Inv-loop μ-loop
+put-row-requires-2 c κs = omega (arith, c .before .before .before .before .before .before .before .pre .fits, c .before .before .loop .inv .1)
+
+add-i : tie.Need-add-i Inv-loop μ-loop
+add-i c = omega (arith, c .before .before .before .before .before .before .before .before .before .loop-test .taken, c .before .before .before .before .before .before .before .before .before .before .before .before .before .before .before .pre .few)
+
+loop-less : tie.Need-loop-less Inv-loop μ-loop
+loop-less c = omega (arith, c .before .before .before .before .before .before .before .before .before .loop-test .taken)
+
 loop-again : tie.Need-loop-again Inv-loop μ-loop
 loop-again c =
     let loop = c .before .before .before .before .before .before .before .before .before .before .loop in
     let line-outcome = c .before .before .before .before .before .before .before .before .line-outcome in
     let row = c .before .before .before .before .before .before .row in
     let e = sym (line-outcome .ensures) ∙ row .given .1 in
-    (search needs, search needs, rows-step _ _ e _ (loop .inv .2) (c .before .before .before .put-row .ensures), total-step _ _ e (loop .inv .3) (c .add .ensures), answer-step _ _ e (loop .inv .4))
+    (omega (arith, c .before .before .before .before .before .before .before .before .before .loop-test .taken), search needs, rows-step _ _ e _ (loop .inv .2) (c .before .before .before .put-row .ensures), total-step _ _ e (loop .inv .3) (c .add .ensures), answer-step _ _ e (loop .inv .4))
 
 returns-2 : tie.Need-returns-2 Inv-loop μ-loop
 returns-2 c =
@@ -77,5 +95,5 @@ pub fill-spec : {M : Type 1} → statement M
 fill-spec =
     tie.close
     (tie.spec Inv-loop μ-loop (λ c κs. search needs) loop-holds line-outcome-requires (λ c. search needs) (λ c κs. search needs)
-    (λ c. search needs) (λ c. search needs) (λ c. search needs) returns (λ c. search needs) (λ c κs. search needs) add-requires
-    (λ c. search needs) (λ c. search needs) loop-again (λ c κs. search needs) (λ c. search needs) returns-2)
+    add-t14 cast-t15 (λ c. search needs) returns (λ c. search needs) put-row-requires add-requires add-i loop-less loop-again
+    put-row-requires-2 (λ c. search needs) returns-2)

@@ -33,7 +33,7 @@ use Rattle.desk.specs.declared.row.RowSearch.{RowSearch}
 use Rattle.desk.specs.declared.row.RowSearch.the-variants.{Hit, Miss}
 use Rattle.shares.specs.declared.share.Reading.{Reading}
 use Rattle.shares.specs.declared.share.Share.{Share}
-use Rattle.shares.specs.declared.share.Share.the-variants.{Part, OtherKind, Unusable, OfNothing, AboveWhole}
+use Rattle.shares.specs.declared.share.Share.the-variants.{Part, NoShare}
 use Rattle.desk.specs.declared.account.Treatment.{Treatment}
 use Rattle.desk.specs.declared.account.Treatment.the-variants.{By, NoTreatment}
 use Rattle.desk.specs.declared.account.LineOutcome.{LineOutcome}
@@ -66,10 +66,7 @@ module _ (G e n d u : ℕ) (water : Bool) (w : Worked) (ok : Admissible e n d u)
 module _ (u : ℕ) (reuse : u ≤ wholeShare) where
   treated-admissible : (k : ℕ) (share : Share) → k ≤ wholeShare → ((n d : ℕ) → share ≡ Part n d → Fair n d)
       → (e n d : ℕ) → treated k share ≡ By e n d → Admissible e n d u
-  treated-admissible k OtherKind most fair e n d h = clash (cc)
-  treated-admissible k Unusable most fair e n d h = clash (cc)
-  treated-admissible k OfNothing most fair e n d h = clash (cc)
-  treated-admissible k AboveWhole most fair e n d h = clash (cc)
+  treated-admissible k (NoShare fault) most fair e n d h = clash (cc)
   treated-admissible k (Part a b) most fair e n d h =
       let p : k ≡ e = cc in
       let q : a ≡ n = cc in

@@ -13,15 +13,14 @@ use Rattle.shares.specs.Share.{shareBy}
 use Rattle.desk.specs.Line.{mostKilograms, lineOf}
 use Rattle.desk.specs.Lent.{Lent}
 use Rattle.desk.specs.Cells.{rowFrom}
-use Rattle.answers.specs.declared.answer.LineFault.the-variants.{ActivityTooLarge, ReuseTooLarge, NoRow, NoTechnique, WrongKind, BadReading}
-use Rattle.answers.specs.declared.answer.LineFault.the-variants.{ZeroDivisor, KAboveOne}
+use Rattle.answers.specs.declared.answer.LineFault.the-variants.{ActivityTooLarge, ReuseTooLarge, NoRow, NoTechnique}
 use Rattle.desk.specs.declared.line.Line.{Line}
 use Rattle.desk.specs.declared.row.Row.{Row}
 use Rattle.desk.specs.declared.row.RowSearch.{RowSearch}
 use Rattle.desk.specs.declared.row.RowSearch.the-variants.{Hit, Miss}
 use Rattle.shares.specs.declared.share.Reading.{Reading}
 use Rattle.shares.specs.declared.share.Share.{Share}
-use Rattle.shares.specs.declared.share.Share.the-variants.{Part, OtherKind, Unusable, OfNothing, AboveWhole}
+use Rattle.shares.specs.declared.share.Share.the-variants.{Part, NoShare}
 use Rattle.desk.specs.declared.account.Treatment.{Treatment}
 use Rattle.desk.specs.declared.account.Treatment.the-variants.{By, NoTreatment}
 use Rattle.desk.specs.declared.account.LineOutcome.{LineOutcome}
@@ -30,10 +29,7 @@ use Rattle.desk.specs.declared.account.LineOutcome.the-variants.{Given, 
 -- the efficiency with k
 abbrev pub treated : (e : ℕ) (k : Share) → Treatment
 treated e (Part n d) = By e n d
-treated e OtherKind = NoTreatment WrongKind
-treated e Unusable = NoTreatment BadReading
-treated e OfNothing = NoTreatment ZeroDivisor
-treated e AboveWhole = NoTreatment KAboveOne
+treated e (NoShare fault) = NoTreatment fault
 
 -- the technique at place j of the row's list, with k by the row's k rule
 abbrev pub byTechnique : (t : List ℕ) (row : Row) (reading : Reading) (place : Found) → Treatment

@@ -47,10 +47,7 @@ fn treated(efficiency: usize, reading: Reading, rule: usize) -> Treatment
 {
     match share_by(reading, rule) {
         Share::Part(n, d) => Treatment::By(efficiency, n, d),
-        Share::OtherKind => Treatment::NoTreatment(LineFault::WrongKind),
-        Share::Unusable => Treatment::NoTreatment(LineFault::BadReading),
-        Share::OfNothing => Treatment::NoTreatment(LineFault::ZeroDivisor),
-        Share::AboveWhole => Treatment::NoTreatment(LineFault::KAboveOne),
+        Share::NoShare(fault) => Treatment::NoTreatment(fault),
     }
 }
 

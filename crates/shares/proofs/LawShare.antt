@@ -17,19 +17,20 @@ use Rattle.amounts.specs.Line.{mostDivisor}
 use Rattle.amounts.specs.Reading.{partsPerUnit}
 use Rattle.amounts.proofs.LawReading.{taken-most}
 use Rattle.amounts.proofs.reading.Taken.{the-type}
+use Rattle.answers.specs.declared.answer.LineFault.the-variants.{WrongKind, BadReading, ZeroDivisor, KAboveOne}
 use Rattle.shares.specs.Share.{mostHours, mostKilowatts, hoursOf, kwOf, kwhOf, ratio, ifTaken, hoursShare, energyShare}
 use Rattle.shares.specs.Share.{goesWith, shareOf, shareBy}
 use Rattle.shares.specs.declared.share.Reading.{Reading}
 use Rattle.shares.specs.declared.share.Reading.the-variants.{None, Hours, Energy, Throughout}
 use Rattle.shares.specs.declared.share.Share.{Share}
-use Rattle.shares.specs.declared.share.Share.the-variants.{Part, OtherKind, Unusable, OfNothing, AboveWhole}
+use Rattle.shares.specs.declared.share.Share.the-variants.{Part, NoShare}
 
 -- a reading whose case is the second or the third is refused
 pub taken : (x : Taken) (t : ℕ) → x ≡ Is t → (f : ℕ → Share) → ifTaken x f ≡ f t
 unfolding ifTaken
 taken x t e f = rw e
 
-pub not-taken : (x : Taken) (f : ℕ → Share) → OneOf (1 ∷ 2 ∷ []) (tagOf the-type x) → Unusable ≡ ifTaken x f
+pub not-taken : (x : Taken) (f : ℕ → Share) → OneOf (1 ∷ 2 ∷ []) (tagOf the-type x) → NoShare BadReading ≡ ifTaken x f
 unfolding ifTaken
 not-taken (Is t) f h = absurd (⊎-elim (λ (e : _≡_ {A = ℕ} 0 1). omega arith) (λ (e : _≡_ {A = ℕ} 0 2). omega arith) h)
 not-taken Over f h = refl
@@ -48,14 +49,14 @@ ratio-fair : (a b n d : ℕ) → b ≤ mostDivisor → ratio a b ≡ Part n d �
 unfolding ratio
 ratio-fair a b n d small h =
     either-way (eqb b 0)
-    (λ z. let r : OfNothing ≡ Part n d = rw z at h in clash (cc))
+    (λ z. let r : NoShare ZeroDivisor ≡ Part n d = rw z at h in clash (cc))
     (λ z. either-way (leb a b)
     (λ l.
     let r : Part a b ≡ Part n d = rw (z, l) at h in
     let p : a ≡ n = cc in
     let q : b ≡ d = cc in
     record { fraction = omega (arith, leb-true a b l); divisor = omega (arith, positive b z); size = omega arith })
-    (λ l. let r : AboveWhole ≡ Part n d = rw (z, l) at h in clash (cc)))
+    (λ l. let r : NoShare KAboveOne ≡ Part n d = rw (z, l) at h in clash (cc)))
 
 -- where a share comes out, the reading was taken
 part-taken : {P : Type 0} (x : Taken) (f : ℕ → Share) (n d : ℕ) → ifTaken x f ≡ Part n d → ((t : ℕ) → x ≡ Is t → f t ≡ Part n d → P) → P
@@ -89,4 +90,4 @@ unfolding shareBy
 share-fair reading rule n d h =
     either-way (goesWith reading rule)
     (λ g. of-fair reading n d (rw g at h))
-    (λ g. let r : OtherKind ≡ Part n d = rw g at h in clash (cc))
+    (λ g. let r : NoShare WrongKind ≡ Part n d = rw g at h in clash (cc))

@@ -6,11 +6,12 @@ use lib.Ieee.{Float}
 use Rattle.amounts.specs.Reading.{partsPerUnit, takenOf}
 use Rattle.amounts.specs.declared.reading.Taken.{Taken}
 use Rattle.amounts.specs.declared.reading.Taken.the-variants.{Is, Over, Bad}
+use Rattle.answers.specs.declared.answer.LineFault.the-variants.{WrongKind, BadReading, ZeroDivisor, KAboveOne}
 use Rattle.shares.specs.declared.share.EnergyReading.{EnergyReading}
 use Rattle.shares.specs.declared.share.Reading.{Reading}
 use Rattle.shares.specs.declared.share.Reading.the-variants.{None, Hours, Energy, Throughout}
 use Rattle.shares.specs.declared.share.Share.{Share}
-use Rattle.shares.specs.declared.share.Share.the-variants.{Part, OtherKind, Unusable, OfNothing, AboveWhole}
+use Rattle.shares.specs.declared.share.Share.the-variants.{Part, NoShare}
 
 -- hours go with k rule 1, energy with 2, throughout with either, none with none
 unfoldable pub goesWith : Reading → ℕ → Bool
@@ -41,13 +42,13 @@ kwhOf x = takenOf partsPerUnit mostKilowattHours x
 
 -- k, which has a divisor and is not above 1
 unfoldable pub ratio : ℕ → ℕ → Share
-ratio n d = cond (eqb d 0) OfNothing (cond (leb n d) (Part n d) AboveWhole)
+ratio n d = cond (eqb d 0) (NoShare ZeroDivisor) (cond (leb n d) (Part n d) (NoShare KAboveOne))
 
 -- what comes of a reading, unless it is bad or over its limit
 unfoldable pub ifTaken : Taken → (ℕ → Share) → Share
 ifTaken (Is t) f = f t
-ifTaken Over f = Unusable
-ifTaken Bad f = Unusable
+ifTaken Over f = NoShare BadReading
+ifTaken Bad f = NoShare BadReading
 
 -- run / production
 unfoldable pub hoursShare : Float → Float → Share
@@ -60,11 +61,11 @@ energyShare e =
     (λ kwh. ifTaken (kwOf (e .kw)) (λ kw. ifTaken (hoursOf (e .hours)) (λ hours. ratio (kwh * partsPerUnit) (kw * hours))))
 
 unfoldable pub shareOf : Reading → Share
-shareOf None = OtherKind
+shareOf None = NoShare WrongKind
 shareOf (Hours run production) = hoursShare run production
 shareOf (Energy e) = energyShare e
 shareOf Throughout = Part 1 1
 
 -- k by a reading of a kind that goes with the k rule
 unfoldable pub shareBy : (reading : Reading) (rule : ℕ) → Share
-shareBy reading rule = cond (goesWith reading rule) (shareOf reading) OtherKind
+shareBy reading rule = cond (goesWith reading rule) (shareOf reading) (NoShare WrongKind)

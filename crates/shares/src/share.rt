@@ -4,6 +4,7 @@ ghost use Rattle.shares.specs.Share.{goesWith, ratio, hoursShare, energy
 use amounts::reading::PARTS_PER_UNIT;
 use amounts::reading::Taken;
 use amounts::reading::parts_of;
+use answers::answer::LineFault;
 
 // Limits, in whole hours, kW and kWh.
 pub const MOST_HOURS: u32 = 8784;
@@ -28,14 +29,7 @@ pub enum Reading {
 // k as n over d, or what is wrong.
 pub enum Share {
     Part(u64, u64),
-    // the kind of reading does not go with the k rule
-    OtherKind,
-    // a number of the reading is not finite, below zero, or over its limit
-    Unusable,
-    // the divisor is 0
-    OfNothing,
-    // n is above d
-    AboveWhole,
+    NoShare(LineFault),
 }
 
 // Kind 1 goes with k rule 1, kind 2 with k rule 2, kind 3 with either, kind 0 with none.
@@ -57,12 +51,12 @@ fn ratio(n: u64, d: u64) -> Share
     ensures { λ r. ⌜ r ≡ ratio n d ⌝ }
 {
     if d == 0 {
-        return Share::OfNothing;
+        return Share::NoShare(LineFault::ZeroDivisor);
     }
     if n <= d {
         Share::Part(n, d)
     } else {
-        Share::AboveWhole
+        Share::NoShare(LineFault::KAboveOne)
     }
 }
 
@@ -70,10 +64,10 @@ fn hours_share(run: f64, production: f64) -> Share
     ensures { λ r. ⌜ r ≡ hoursShare run production ⌝ }
 {
     let Taken::Is(n) = parts_of(run, MOST_HOURS) else {
-        return Share::Unusable;
+        return Share::NoShare(LineFault::BadReading);
     };
     let Taken::Is(d) = parts_of(production, MOST_HOURS) else {
-        return Share::Unusable;
+        return Share::NoShare(LineFault::BadReading);
     };
     ratio(n, d)
 }
@@ -82,13 +76,13 @@ fn energy_share(e: EnergyReading) -> Share
     ensures { λ r. ⌜ r ≡ energyShare e ⌝ }
 {
     let Taken::Is(kwh) = parts_of(e.kwh, MOST_KILOWATT_HOURS) else {
-        return Share::Unusable;
+        return Share::NoShare(LineFault::BadReading);
     };
     let Taken::Is(kw) = parts_of(e.kw, MOST_KILOWATTS) else {
-        return Share::Unusable;
+        return Share::NoShare(LineFault::BadReading);
     };
     let Taken::Is(hours) = parts_of(e.hours, MOST_HOURS) else {
-        return Share::Unusable;
+        return Share::NoShare(LineFault::BadReading);
     };
     ratio(kwh * PARTS_PER_UNIT, kw * hours)
 }
@@ -98,7 +92,7 @@ fn share_of(reading: Reading) -> Share
     ensures { λ r. ⌜ r ≡ shareOf reading ⌝ }
 {
     match reading {
-        Reading::None => Share::OtherKind,
+        Reading::None => Share::NoShare(LineFault::WrongKind),
         Reading::Hours { run, production } => hours_share(run, production),
         Reading::Energy(e) => energy_share(e),
         Reading::Throughout => Share::Part(1, 1),
@@ -106,13 +100,13 @@ fn share_of(reading: Reading) -> Share
 }
 
 // k for a row of the book with this k rule, 1 hours or 2 energy. The kind is looked at first, then the numbers in their order, then the
-// divisor, then whether k is above 1. Under any other rule every reading is of another kind.
+// divisor, then whether k is above 1. Under any other rule every reading is of the wrong kind.
 pub fn share_by(reading: Reading, rule: usize) -> Share
     ensures { λ r. ⌜ r ≡ shareBy reading rule ⌝ }
 {
     if goes_with(reading, rule) {
         share_of(reading)
     } else {
-        Share::OtherKind
+        Share::NoShare(LineFault::WrongKind)
     }
 }

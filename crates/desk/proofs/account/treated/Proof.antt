@@ -7,19 +7,7 @@ returns : tie.Need-returns
 returns c = rw (← c .before .before .before .share-by .ensures, c .before .n .given .1)
 
 returns-2 : tie.Need-returns-2
-returns-2 c = rw (← c .before .before .share-by .ensures, c .enum-told .given .1)
-
-returns-3 : tie.Need-returns-3
-returns-3 c = rw (← c .before .before .share-by .ensures, c .enum-told2 .given .1)
-
-returns-4 : tie.Need-returns-4
-returns-4 c = rw (← c .before .before .share-by .ensures, c .enum-told3 .given .1)
-
-returns-5 : tie.Need-returns-5
-returns-5 c = rw (← c .before .before .share-by .ensures, c .enum-told4 .given .1)
+returns-2 c = rw (← c .before .before .before .share-by .ensures, c .before .fault .given .1)
 
 pub treated-spec : {M : Type 1} → statement M
-treated-spec =
-    tie.close
-    (tie.spec (λ c κs. search needs) (λ c. search needs) (λ c. search needs) (λ c. search needs) (λ c. search needs)
-    (λ c. search needs) returns returns-2 returns-3 returns-4 returns-5)
+treated-spec = tie.close (tie.spec (λ c κs. search needs) (λ c. search needs) (λ c. search needs) returns returns-2)

@@ -4,7 +4,7 @@ ghost use Prim.Native.Nat.{_≤_};
 ghost use lib.ListN.{length, take};
 ghost use Rattle.desk.specs.Lent.{lent};
 ghost use Rattle.report.specs.Report.{mostText, reportOf};
-use desk::house::MOST_BYTES;
+use headers::house::MOST_BYTES;
 use libc::STDERR_FILENO;
 use libc::STDOUT_FILENO;
 use little::part::part;

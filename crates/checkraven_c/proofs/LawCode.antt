@@ -9,7 +9,7 @@ use lib.ListN.{length}
 use Rattle.search.proofs.LawTest.{clash}
 use Rattle.desk.specs.Lent.{Lent}
 use Rattle.answers.specs.Answer.{answerNumber, answerLine}
-use Rattle.desk.specs.Sheet.{mostLines}
+use Rattle.headers.specs.Sheet.{mostLines}
 use Rattle.desk.specs.Demands.{OfFile, OfLine}
 use Rattle.answers.specs.declared.answer.Outcome.{Outcome}
 use Rattle.answers.specs.declared.answer.Outcome.the-variants.{Accepted, RefusedFile, RefusedLine}

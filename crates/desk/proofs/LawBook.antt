@@ -13,11 +13,12 @@ use Rattle.amounts.specs.Line.{wholeShare}
 use Rattle.little.specs.Read.{u32At}
 use Rattle.search.specs.Test.{all}
 use Rattle.search.proofs.LawTest.{either-way, and-left, and-right, all-at, every-at}
-use Rattle.desk.specs.House.{fileOk}
-use Rattle.desk.specs.Book.{bookHeader, bookFits, rowCount, techniqueCount, mostTechniques, techniqueSize, bookHeaderOk, techniqueBlock}
+use Rattle.headers.specs.House.{fileOk}
+use Rattle.headers.specs.Book.{bookHeader, bookFits, rowCount, techniqueCount, mostTechniques, techniqueSize, bookHeaderOk, techniqueBlock}
 use Rattle.desk.specs.Book.{techniqueCode, techniqueEfficiency, techniqueOk, techniquesOk, rowStart, fieldsAt, fieldsOk, mostCoefficient, coefficientAt}
 use Rattle.desk.specs.Book.{rowOk, rowsOk, bookOk}
-use Rattle.desk.specs.Sheet.{sheetHeader, sheetHeaderSize, sheetFits, sheetHeaderOk, lineSize, lineStart, lineCount}
+use Rattle.headers.specs.Sheet.{sheetHeader, sheetHeaderSize, sheetFits, sheetHeaderOk, lineSize, lineCount}
+use Rattle.desk.specs.Sheet.{lineStart}
 use Rattle.desk.specs.Inner.{Listed, RowIn, LineIn}
 
 -- a loop over n that stops at a number where the test fails

@@ -19,11 +19,12 @@ use Rattle.settle.proofs.LawAnswer.{showing}
 use Rattle.settle.proofs.LawShown.{shown-length, shown-law, shown-more}
 use Rattle.desk.specs.Lent.{Lent}
 use Rattle.desk.specs.Book.{bookOk}
-use Rattle.desk.specs.Sheet.{sheetHeader, lineCount, sheetOk, mostLines}
+use Rattle.headers.specs.Sheet.{sheetHeader, lineCount, mostLines}
+use Rattle.desk.specs.Sheet.{sheetOk}
 use Rattle.desk.specs.Account.{lineOutcome}
 use Rattle.desk.specs.Cells.{width, tableSize, cellsOf}
 use Rattle.desk.specs.Table.{rowGiven, rows, total, tableOf, cellsAfter}
-use Rattle.desk.specs.Unit.{gram, kilogram, tonne, unitOf, unitOfSheet}
+use Rattle.headers.specs.Unit.{gram, kilogram, tonne, unitOf, unitOfSheet}
 use Rattle.desk.specs.Demands.{tableGrid, Demand3}
 use Rattle.desk.specs.Declare.{shownAfter, BothAfter}
 use Rattle.desk.specs.Inner.{Showable, shownOver}

@@ -17,15 +17,17 @@ use Rattle.settle.specs.Shown.{at, sum}
 use Rattle.settle.specs.Step.{shownTable}
 use Rattle.settle.proofs.LawShown.{shown-length}
 use Rattle.desk.specs.Lent.{Lent}
-use Rattle.desk.specs.Book.{bookOk, techniqueBlock}
+use Rattle.headers.specs.Book.{techniqueBlock}
+use Rattle.desk.specs.Book.{bookOk}
 use Rattle.desk.specs.Row.{rowOf}
 use Rattle.desk.specs.Line.{lineOf}
-use Rattle.desk.specs.Sheet.{sheetOk, lineCount, mostLines}
+use Rattle.headers.specs.Sheet.{lineCount, mostLines}
+use Rattle.desk.specs.Sheet.{sheetOk}
 use Rattle.desk.specs.Cells.{width, tableSize, cellsOf}
 use Rattle.desk.specs.Account.{treatmentOf, generatedOf, inWater, byTreatment, byRow, excessive, accountOf, lineOutcome}
 use Rattle.answers.specs.Answer.{fileRule, lineRule, answerNumber, answerLine}
 use Rattle.desk.specs.Table.{rowGiven, rows, total, tableOf, byFiles, orLine, byLines, orElseLines, answerOf, cellsAfter}
-use Rattle.desk.specs.Unit.{unitOfSheet}
+use Rattle.headers.specs.Unit.{unitOfSheet}
 use Rattle.desk.specs.Demands.{OfFile, OfLine, tableGrid, Demand1, LineDemand, cellAt, Demand2, Demand3}
 use Rattle.desk.specs.Declare.{shownAfter, BothAfter, Declared}
 use Rattle.desk.specs.Inner.{Ready}

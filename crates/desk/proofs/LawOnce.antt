@@ -3,7 +3,7 @@ use mathlib.Core.Path.{_≡_, sym, ap, _∙_}
 use mathlib.Core.List.{List}
 use Prim.Native.Nat.{ℕ}
 use Rattle.desk.specs.Lent.{Lent}
-use Rattle.desk.specs.Sheet.{lineCount}
+use Rattle.headers.specs.Sheet.{lineCount}
 use Rattle.desk.specs.Account.{lineOutcome}
 use Rattle.desk.specs.Table.{cellsAfter, ExactTable}
 use Rattle.desk.specs.Declare.{shownAfter, Declared}

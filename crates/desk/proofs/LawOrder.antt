@@ -13,7 +13,8 @@ use Rattle.search.specs.Cut.{Falls}
 use Rattle.search.specs.Test.{every}
 use Rattle.search.proofs.LawTest.{either-way, and-left, and-right, every-at}
 use Rattle.desk.specs.Key.{keyFields, before, keyLess, keySame}
-use Rattle.desk.specs.Book.{rowCount, rowStart, keyAt, rises, rowOk, bookOk}
+use Rattle.headers.specs.Book.{rowCount}
+use Rattle.desk.specs.Book.{rowStart, keyAt, rises, rowOk, bookOk}
 use Rattle.desk.specs.Row.{rowHas}
 use Rattle.desk.specs.Inner.{rowBefore, Packs, packedLess, packedSame, rowFits}
 use Rattle.desk.specs.declared.key.Key.{Key}

@@ -10,7 +10,8 @@ use Rattle.search.specs.declared.found.Found.the-variants.{At, Nothing}
 use Rattle.search.proofs.LawTest.{clash}
 use Rattle.search.proofs.LawFirst.{first-below, or-else-below}
 use Rattle.desk.specs.Key.{allScales}
-use Rattle.desk.specs.Book.{rowCount, techniqueBlock, bookOk}
+use Rattle.headers.specs.Book.{rowCount, techniqueBlock}
+use Rattle.desk.specs.Book.{bookOk}
 use Rattle.desk.specs.Inner.{GoodRow}
 use Rattle.desk.specs.Row.{rowHas, rowIndex, rowAt, rowFrom, rowOf}
 use Rattle.desk.specs.declared.key.Key.{Key}

@@ -13,14 +13,16 @@ use Rattle.search.specs.Test.{all, every}
 use Rattle.little.specs.Read.{u16At, u32At, u64At}
 use Rattle.amounts.specs.Line.{removedOf, reusedOf, dischargedOf}
 use Rattle.settle.specs.Shown.{at}
-use Rattle.desk.specs.House.{fileOk}
+use Rattle.headers.specs.House.{fileOk}
 use Rattle.desk.specs.Key.{keyFrom, keySame}
-use Rattle.desk.specs.Book.{bookOk, bookHeaderOk, rowOk, fieldsOk, coefficientAt, techniquesOk, rises}
+use Rattle.headers.specs.Book.{bookHeaderOk}
+use Rattle.desk.specs.Book.{bookOk, rowOk, fieldsOk, coefficientAt, techniquesOk, rises}
 use Rattle.desk.specs.Row.{rowHas, rowIndex, rowAt, rowOf}
-use Rattle.desk.specs.Sheet.{sheetOk, sheetHeaderOk, lineOk, lineCount}
+use Rattle.headers.specs.Sheet.{sheetHeaderOk, lineCount}
+use Rattle.desk.specs.Sheet.{sheetOk, lineOk}
 use Rattle.desk.specs.Line.{readingAt, lineOf}
 use Rattle.desk.specs.Cells.{width}
-use Rattle.desk.specs.Unit.{unitOf, unitOfSheet}
+use Rattle.headers.specs.Unit.{unitOf, unitOfSheet}
 use Rattle.desk.specs.Lent.{Lent, lent}
 use Rattle.desk.specs.Account.{treatmentOf, generatedOf, excessive, accountOf, lineOutcome}
 use Rattle.desk.specs.Table.{rows, total, tableOf, byFiles, byLines, answerOf, cellsAfter}

@@ -16,9 +16,10 @@ use Rattle.search.proofs.LawTest.{clash, either-way, and-left, and-right, every
 use Rattle.little.proofs.LawPart.{put-part}
 use Rattle.settle.specs.Shown.{sum}
 use Rattle.desk.specs.Lent.{Lent}
-use Rattle.desk.specs.House.{fileOk}
+use Rattle.headers.specs.House.{fileOk}
 use Rattle.desk.specs.Book.{bookOk}
-use Rattle.desk.specs.Sheet.{sheetHeader, sheetHeaderSize, sheetFits, sheetHeaderOk, linesOk, sheetOk, lineCount, mostLines}
+use Rattle.headers.specs.Sheet.{sheetHeader, sheetHeaderSize, sheetFits, sheetHeaderOk, lineCount, mostLines}
+use Rattle.desk.specs.Sheet.{linesOk, sheetOk}
 use Rattle.desk.specs.Cells.{width, tableSize, cellsOf, zeros, plus}
 use Rattle.desk.specs.Tally.{add}
 use Rattle.desk.specs.Table.{rowGiven, rows, total, tableOf, byFiles, byLines, orElseLines, cellsAfter}

@@ -6,7 +6,8 @@ use lib.Dec.{ltb, eqb}
 use Rattle.search.specs.declared.found.Found.{Found}
 use Rattle.search.specs.declared.found.Found.the-variants.{At, Nothing}
 use Rattle.amounts.specs.Line.{wholeShare, amountsOf}
-use Rattle.desk.specs.Book.{techniqueBlock, techniqueEfficiency}
+use Rattle.headers.specs.Book.{techniqueBlock}
+use Rattle.desk.specs.Book.{techniqueEfficiency}
 use Rattle.desk.specs.Row.{rowOf}
 use Rattle.desk.specs.Technique.{techniqueIndex}
 use Rattle.shares.specs.Share.{shareBy}

@@ -5,10 +5,10 @@ use mathlib.Core.List.{List, _++_}
 use lib.ListN.{length, drop, replicate}
 use Rattle.settle.specs.Step.{shownTable}
 use Rattle.desk.specs.Lent.{Lent}
-use Rattle.desk.specs.Sheet.{lineCount}
+use Rattle.headers.specs.Sheet.{lineCount}
 use Rattle.desk.specs.Account.{lineOutcome}
 use Rattle.desk.specs.Cells.{tableSize}
-use Rattle.desk.specs.Unit.{unitOfSheet}
+use Rattle.headers.specs.Unit.{unitOfSheet}
 use Rattle.desk.specs.Table.{tableOf, cellsAfter}
 use Rattle.desk.specs.Demands.{tableGrid, Demand1, Demand2, Demand3}
 use Rattle.answers.specs.declared.answer.Outcome.{Outcome}

@@ -8,15 +8,15 @@ use Rattle.amounts.specs.Line.{removedOf, reusedOf, dischargedOf, _over_, whole
 use Rattle.settle.specs.Grid.{Grid, grid}
 use Rattle.settle.specs.Shown.{at, sum, Shown}
 use Rattle.desk.specs.Lent.{Lent}
-use Rattle.desk.specs.Book.{techniqueBlock}
+use Rattle.headers.specs.Book.{techniqueBlock}
 use Rattle.desk.specs.Row.{rowOf}
-use Rattle.desk.specs.Sheet.{lineCount}
+use Rattle.headers.specs.Sheet.{lineCount}
 use Rattle.desk.specs.Line.{lineOf}
 use Rattle.desk.specs.Cells.{width, discharged, tableSize}
 use Rattle.desk.specs.Account.{treatmentOf, generatedOf, inWater}
 use Rattle.answers.specs.Answer.{answerNumber, answerLine}
 use Rattle.desk.specs.Table.{answerOf}
-use Rattle.desk.specs.Unit.{unitOfSheet}
+use Rattle.headers.specs.Unit.{unitOfSheet}
 use Rattle.desk.specs.declared.line.Line.{Line}
 use Rattle.desk.specs.declared.row.Row.{Row}
 use Rattle.desk.specs.declared.row.RowSearch.the-variants.{Hit}

@@ -13,11 +13,13 @@ use Rattle.settle.specs.Shown.{at}
 use Rattle.settle.specs.Table.{Good}
 use Rattle.settle.specs.Step.{shownTable}
 use Rattle.desk.specs.Key.{keyLess}
-use Rattle.desk.specs.Book.{bookHeader, rowCount, rowStart, keyAt, fieldsAt, techniqueCount, techniqueSize, techniqueCode}
+use Rattle.headers.specs.Book.{bookHeader, rowCount, techniqueCount, techniqueSize}
+use Rattle.desk.specs.Book.{rowStart, keyAt, fieldsAt, techniqueCode}
 use Rattle.desk.specs.Book.{techniqueEfficiency, techniquesOk}
 use Rattle.desk.specs.Book.{fieldsOk, coefficientAt, mostCoefficient, bookOk}
 use Rattle.desk.specs.Row.{rowHas}
-use Rattle.desk.specs.Sheet.{lineCount, lineSize, sheetOk, mostLines, lineStart}
+use Rattle.headers.specs.Sheet.{lineCount, lineSize, mostLines}
+use Rattle.desk.specs.Sheet.{sheetOk, lineStart}
 use Rattle.desk.specs.Line.{mostKilograms}
 use Rattle.desk.specs.Lent.{Lent}
 use Rattle.desk.specs.Cells.{width, tableSize, cellsOf}

@@ -1,11 +1,9 @@
 pub mod Lent
-pub mod House
 pub mod Key
 pub mod Book
 pub mod Row
 pub mod Technique
 pub mod Sheet
-pub mod Unit
 pub mod Line
 pub mod Cells
 pub mod Account

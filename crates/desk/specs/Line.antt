@@ -6,7 +6,8 @@ use lib.Dec.{eqb}
 use lib.Ieee.{Float, binary64, ofBits}
 use Rattle.little.specs.Read.{u16At, u64At}
 use Rattle.desk.specs.Key.{keyFrom}
-use Rattle.desk.specs.Sheet.{sheetHeader, lineStart, kindAt}
+use Rattle.headers.specs.Sheet.{sheetHeader}
+use Rattle.desk.specs.Sheet.{lineStart, kindAt}
 use Rattle.desk.specs.declared.line.Line.{Line}
 use Rattle.shares.specs.declared.share.Reading.{Reading}
 use Rattle.shares.specs.declared.share.Reading.the-variants.{None, Hours, Energy, Throughout}

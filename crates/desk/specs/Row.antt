@@ -6,7 +6,8 @@ use Rattle.search.specs.First.{first, orElse}
 use Rattle.search.specs.declared.found.Found.{Found}
 use Rattle.search.specs.declared.found.Found.the-variants.{At, Nothing}
 use Rattle.desk.specs.Key.{keySame, allScales}
-use Rattle.desk.specs.Book.{rowCount, rowStart, keyAt, fieldsAt, coefficientAt}
+use Rattle.headers.specs.Book.{rowCount}
+use Rattle.desk.specs.Book.{rowStart, keyAt, fieldsAt, coefficientAt}
 use Rattle.desk.specs.declared.key.Key.{Key}
 use Rattle.desk.specs.declared.row.Row.{Row}
 use Rattle.desk.specs.declared.row.RowSearch.{RowSearch}

@@ -7,7 +7,8 @@ use lib.ListN.{length, drop, replicate}
 use lib.Dec.{leb}
 use Rattle.desk.specs.Lent.{Lent}
 use Rattle.desk.specs.Book.{bookOk}
-use Rattle.desk.specs.Sheet.{sheetOk, lineCount}
+use Rattle.headers.specs.Sheet.{lineCount}
+use Rattle.desk.specs.Sheet.{sheetOk}
 use Rattle.desk.specs.Account.{lineOutcome}
 use Rattle.desk.specs.Cells.{tableSize, cellsOf, zeros}
 use Rattle.desk.specs.Tally.{start, add}

@@ -4,11 +4,10 @@ ghost use mathlib.Core.Bool.{true};
 ghost use Prim.Native.Nat.{_<_, _≤_, _^_};
 ghost use lib.ListN.{length};
 ghost use Rattle.little.specs.Read.{Reads, u32Range};
-ghost use Rattle.desk.specs.Book.{bookHeader, rowCount, techniqueCount, bookHeaderOk, techniqueBlock};
+ghost use Rattle.headers.specs.Book.{bookHeader, rowCount, techniqueCount, bookHeaderOk, techniqueBlock};
 ghost use Rattle.desk.specs.Book.{rowStart, keyAt, fieldsOk, coefficientAt, rowsOk, bookOk};
 ghost use Rattle.desk.specs.Inner.{counted, farthest, RowIn, Packs, ReadsKey, rowFits};
 ghost use Rattle.desk.specs.InnerRun.{Runs};
-use super::house::file_ok;
 use super::inside::byte_in;
 use super::inside::u16_in;
 use super::inside::u32_in;
@@ -19,69 +18,16 @@ use super::key::pack;
 use super::key::packed_less;
 use super::run::fill_runs;
 use super::run::list_ok;
-use little::part::part;
-use little::read::u16_at;
-use little::read::u32_at;
-
-pub const HEADER_SIZE: usize = 16;
-
-pub const ROW_SIZE: usize = 24;
-
-pub const TECHNIQUE_SIZE: usize = 4;
-
-pub const MOST_ROWS: usize = 1024;
-
-pub const MOST_TECHNIQUES: usize = 4096;
+use headers::book::MOST_TECHNIQUES;
+use headers::book::ROW_SIZE;
+use headers::book::book_header_ok;
+use headers::book::row_count;
+use headers::book::row_offset;
+use headers::book::technique_block;
+use headers::book::technique_count;
 
 // Units per kilogram, at most.
 pub const MOST_COEFFICIENT: usize = 100_000_000;
-
-pub(crate) fn row_count(b: &[u8]) -> usize
-    ensures { λ r. ⌜ Reads r (rowCount (now (b .entry))) counted ⌝ }
-{
-    u16_at(b, 4)
-}
-
-fn technique_count(b: &[u8]) -> usize
-    ensures { λ r. ⌜ Reads r (techniqueCount (now (b .entry))) counted ⌝ }
-{
-    u16_at(b, 6)
-}
-
-fn row_offset(b: &[u8]) -> usize
-    ensures { λ r. ⌜ Reads r (bookHeader (now (b .entry)) .rowOffset) u32Range ⌝ }
-{
-    u32_at(b, 8)
-}
-
-fn technique_offset(b: &[u8]) -> usize
-    ensures { λ r. ⌜ Reads r (bookHeader (now (b .entry)) .techniqueOffset) u32Range ⌝ }
-{
-    u32_at(b, 12)
-}
-
-fn book_header_ok(b: &[u8]) -> bool
-    ensures { λ r. ⌜ r ≡ bookHeaderOk (now (b .entry)) ⌝ }
-{
-    let length = u32_at(b, 0);
-    let rows = row_count(b);
-    let techniques = technique_count(b);
-    let rows_from = row_offset(b);
-    let techniques_from = technique_offset(b);
-    let fits = (rows <= MOST_ROWS)
-        & (techniques <= MOST_TECHNIQUES)
-        & (HEADER_SIZE <= rows_from)
-        & (rows_from + ROW_SIZE * rows <= techniques_from)
-        & (techniques_from + TECHNIQUE_SIZE * techniques <= length);
-    file_ok(b, 0, HEADER_SIZE) & fits
-}
-
-// The technique block is a part of the book that begins at its offset.
-pub(crate) fn technique_block(b: &[u8]) -> &[u8]
-    ensures { λ r. ⌜ now r ≡ techniqueBlock (now (b .entry)) ⌝ }
-{
-    part(b, technique_offset(b), TECHNIQUE_SIZE * technique_count(b))
-}
 
 pub(crate) fn row_start(b: &[u8], i: usize) -> usize
     requires { ⌜ i < counted ⌝ }

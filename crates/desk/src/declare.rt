@@ -7,11 +7,11 @@ ghost use Rattle.desk.specs.Declare.{Declared};
 ghost use Rattle.desk.specs.Inner.{Ready, Showable, shownOver, LinesDeclared};
 use super::cells::COLUMNS;
 use super::cells::DISCHARGED;
-use super::sheet::line_count;
 use super::table::by_files;
 use super::table::fill;
-use super::unit::unit_of;
 use answers::answer::Outcome;
+use headers::sheet::line_count;
+use headers::unit::unit_of;
 use little::cells::clear;
 
 fn shorter(a: usize, b: usize) -> usize

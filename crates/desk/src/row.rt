@@ -3,12 +3,12 @@ ghost use mathlib.Core.Path.{_≡_};
 ghost use mathlib.Core.Bool.{true};
 ghost use Prim.Native.Nat.{_<_};
 ghost use Rattle.search.specs.First.{Finds, first};
-ghost use Rattle.desk.specs.Book.{rowCount, rowStart, fieldsOk, bookOk};
+ghost use Rattle.headers.specs.Book.{rowCount};
+ghost use Rattle.desk.specs.Book.{rowStart, fieldsOk, bookOk};
 ghost use Rattle.desk.specs.Inner.{counted, RowIn, SmallKey, PackedBefore, PackedCut, PackedHas, ReadsRow, FindsRow};
 ghost use Rattle.desk.specs.Row.{rowHas, rowIndex, rowAt, rowOf};
 use super::book::coefficient_at;
 use super::book::packed_at;
-use super::book::row_count;
 use super::book::row_start;
 use super::inside::byte_in;
 use super::inside::u16_in;
@@ -18,6 +18,7 @@ use super::key::all_scales;
 use super::key::pack;
 use super::key::packed_less;
 use super::key::packed_same;
+use headers::book::row_count;
 use search::found::Found;
 
 // What a line is accounted for by: units per kilogram, and the list of techniques in the block.

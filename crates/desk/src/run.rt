@@ -3,7 +3,7 @@
 ghost use mathlib.Core.Path.{_≡_};
 ghost use Prim.Native.Nat.{_<_, _≤_, _*_};
 ghost use lib.ListN.{length};
-ghost use Rattle.desk.specs.Book.{mostTechniques, techniqueSize};
+ghost use Rattle.headers.specs.Book.{mostTechniques, techniqueSize};
 ghost use Rattle.desk.specs.Inner.{counted};
 ghost use Rattle.desk.specs.InnerRun.{runFrom, Runs, listOk};
 use super::line::WHOLE_SHARE;

@@ -4,52 +4,20 @@ ghost use mathlib.Core.Bool.{true};
 ghost use Prim.Native.Nat.{_<_};
 ghost use Rattle.little.specs.Read.{Reads};
 ghost use Rattle.desk.specs.Inner.{counted, farthest, LineIn};
-ghost use Rattle.desk.specs.Sheet.{sheetHeaderOk, lineStart, lineOk, linesOk, lineCount, sheetOk};
-use super::house::file_ok;
+ghost use Rattle.headers.specs.Sheet.{sheetHeaderOk, lineCount};
+ghost use Rattle.desk.specs.Sheet.{lineStart, lineOk, linesOk, sheetOk};
 use super::inside::byte_in;
 use super::inside::u64_in;
-use little::read::byte_at;
-use little::read::u16_at;
-use little::read::u32_at;
-
-pub const HEADER_SIZE: usize = 16;
-
-pub const LINE_SIZE: usize = 64;
-
-pub const MOST_LINES: usize = 128;
-
-// The lines that the header of a sheet states; 0 for a sheet that has no header.
-pub fn line_count(s: &[u8]) -> usize
-    ensures { λ r. ⌜ Reads r (lineCount (now (s .entry))) counted ⌝ }
-{
-    u16_at(s, 4)
-}
-
-fn sheet_header_ok(s: &[u8]) -> bool
-    ensures { λ r. ⌜ r ≡ sheetHeaderOk (now (s .entry)) ⌝ }
-{
-    let length = u32_at(s, 0);
-    let lines = line_count(s);
-    let medium = byte_at(s, 6);
-    let pollutant = byte_at(s, 7);
-    let offset = u32_at(s, 8);
-    let unit = u32_at(s, 12);
-    let fits = (lines <= MOST_LINES)
-        & (1 <= medium)
-        & (medium <= 3)
-        & (pollutant != 0)
-        & (HEADER_SIZE <= offset)
-        & (offset + LINE_SIZE * lines <= length)
-        & (1 <= unit)
-        & (unit <= 3);
-    file_ok(s, 0, HEADER_SIZE) & fits
-}
+use headers::sheet::LINE_SIZE;
+use headers::sheet::line_count;
+use headers::sheet::line_offset;
+use headers::sheet::sheet_header_ok;
 
 pub(crate) fn line_start(s: &[u8], i: usize) -> usize
     requires { ⌜ i < counted ⌝ }
     ensures { λ r. ⌜ Reads r (lineStart (now (s .entry)) i) farthest ⌝ }
 {
-    u32_at(s, 8) + LINE_SIZE * i
+    line_offset(s) + LINE_SIZE * i
 }
 
 fn line_ok(s: &[u8], i: usize) -> bool

@@ -10,12 +10,12 @@ use super::account::line_outcome;
 use super::book::book_ok;
 use super::cells::COLUMNS;
 use super::cells::put_row;
-use super::sheet::MOST_LINES;
-use super::sheet::line_count;
 use super::sheet::sheet_ok;
 use super::tally::Tally;
 use answers::answer::FileFault;
 use answers::answer::Outcome;
+use headers::sheet::MOST_LINES;
+use headers::sheet::line_count;
 use little::cells::clear;
 
 // Cells that are enough for every sheet.

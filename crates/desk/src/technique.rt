@@ -4,11 +4,12 @@ ghost use lib.ListN.{length};
 ghost use Rattle.search.specs.Cut.{Cut};
 ghost use Rattle.search.specs.First.{Finds};
 ghost use Rattle.little.specs.Read.{Reads};
-ghost use Rattle.desk.specs.Book.{techniqueSize, techniqueCode, techniqueEfficiency};
+ghost use Rattle.headers.specs.Book.{techniqueSize};
+ghost use Rattle.desk.specs.Book.{techniqueCode, techniqueEfficiency};
 ghost use Rattle.desk.specs.Inner.{Listed, codeBelow, counted};
 ghost use Rattle.desk.specs.Technique.{techniqueIndex};
-use super::book::TECHNIQUE_SIZE;
 use super::inside::u16_in;
+use headers::book::TECHNIQUE_SIZE;
 use little::read::u16_at;
 use search::found::Found;
 

@@ -1,6 +1,6 @@
 // The desk over the folders of data/: each has a book and a sheet, and the listing that `make-files` made both from, or what was changed.
 use super::print::say;
-use desk::house::MOST_BYTES;
+use headers::house::MOST_BYTES;
 use little::part::part;
 use report::MOST_TEXT;
 use report::Written;

@@ -10,10 +10,10 @@ use borrow.Author.Tests.{le-leb, lt-leb}
 use Rattle.numerals.proofs.LawLaid.{length-laid, laid-is}
 use Rattle.settle.proofs.LawShown.{shown-length}
 use Rattle.desk.specs.Lent.{Lent}
-use Rattle.desk.specs.Sheet.{lineCount, mostLines}
+use Rattle.headers.specs.Sheet.{lineCount, mostLines}
 use Rattle.desk.specs.Account.{lineOutcome}
 use Rattle.desk.specs.Cells.{tableSize}
-use Rattle.desk.specs.Unit.{unitOfSheet}
+use Rattle.headers.specs.Unit.{unitOfSheet}
 use Rattle.answers.specs.Answer.{answerNumber, answerLine}
 use Rattle.desk.specs.Table.{answerOf}
 use Rattle.desk.specs.Declare.{shownAfter, Declared}

@@ -9,10 +9,10 @@ use lib.ListN.{length, drop, replicate}
 use Rattle.numerals.specs.Numeral.{mostDigits, numeral}
 use Rattle.settle.specs.Step.{shownTable}
 use Rattle.desk.specs.Lent.{Lent}
-use Rattle.desk.specs.Sheet.{lineCount, mostLines}
+use Rattle.headers.specs.Sheet.{lineCount, mostLines}
 use Rattle.desk.specs.Account.{lineOutcome}
 use Rattle.desk.specs.Cells.{width, tableSize}
-use Rattle.desk.specs.Unit.{unitOfSheet}
+use Rattle.headers.specs.Unit.{unitOfSheet}
 use Rattle.answers.specs.Answer.{fileRule, lineRule}
 use Rattle.desk.specs.Table.{tableOf, answerOf}
 use Rattle.desk.specs.Demands.{cellAt, tableGrid}

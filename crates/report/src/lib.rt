@@ -5,7 +5,7 @@ mod told;
 
 ghost use Rattle.desk.specs.Lent.{lent};
 ghost use Rattle.report.specs.Report.{Reported};
-use desk::sheet::MOST_LINES;
+use headers::sheet::MOST_LINES;
 use numerals::bytes::clear;
 use put::MOST_NUMBER;
 use rows::MOST_ROW;

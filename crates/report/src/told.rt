@@ -3,7 +3,7 @@ ghost use mathlib.Core.Path.{_≡_};
 ghost use Prim.Native.Nat.{_+_, _≤_};
 ghost use lib.ListN.{take};
 ghost use Rattle.desk.specs.Lent.{lent};
-ghost use Rattle.desk.specs.Sheet.{mostLines};
+ghost use Rattle.headers.specs.Sheet.{mostLines};
 ghost use Rattle.report.specs.Report.{mostUnit, mostText, unitText, figuresText, refusalText, reportOf};
 ghost use Rattle.report.specs.Inner.{reach, mostRefusal, Puts};
 use super::put::number;
@@ -12,9 +12,9 @@ use super::rows::table;
 use answers::answer::Outcome;
 use desk::cells::COLUMNS;
 use desk::declare::declare;
-use desk::sheet::line_count;
 use desk::table::MOST_CELLS;
-use desk::unit::unit_of;
+use headers::sheet::line_count;
+use headers::unit::unit_of;
 
 fn refusal(text: &mut [u8], rule: u16, line: u16) -> usize
     ensures { λ r. ⌜ Puts (refusalText rule line) mostRefusal 0 (now (text .entry)) r (now (text .exit)) ⌝ }

@@ -6,7 +6,8 @@ use native.Mathlib.Omega.{arith}
 use lib.Dec.{eqb}
 use Rattle.search.specs.Test.{all}
 use Rattle.search.proofs.LawTest.{all-start, all-step, all-done}
-use Rattle.desk.specs.Book.{keyAt, rowStart, rowOk, techniqueBlock}
+use Rattle.headers.specs.Book.{techniqueBlock}
+use Rattle.desk.specs.Book.{keyAt, rowStart, rowOk}
 use Rattle.desk.specs.Inner.{Packs}
 use Rattle.desk.proofs.LawBook.{all-stopped, row-in}
 use Rattle.desk.proofs.LawOrder.{row-by-kept}

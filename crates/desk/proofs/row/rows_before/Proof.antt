@@ -4,7 +4,7 @@ use mathlib.Core.Path.{sym, _∙_}
 use native.Mathlib.Omega.{arith}
 use borrow.Author.Needs.{needs}
 use Rattle.search.proofs.LawCut.{cut-start, cut-low, cut-high, cut-met}
-use Rattle.desk.specs.Book.{rowCount}
+use Rattle.headers.specs.Book.{rowCount}
 use Rattle.desk.specs.Inner.{PackedCut, counted}
 use Rattle.desk.proofs.LawBook.{good-row-in}
 use Rattle.desk.proofs.LawOrder.{rows-fall}

@@ -4,7 +4,8 @@ use mathlib.Core.Path.{_≡_, sym, _∙_}
 use native.Mathlib.Omega.{arith}
 use lib.ListN.{length, length-set}
 use Rattle.little.proofs.LawRead.{u16-past}
-use Rattle.desk.specs.Book.{techniqueSize, techniqueCode}
+use Rattle.headers.specs.Book.{techniqueSize}
+use Rattle.desk.specs.Book.{techniqueCode}
 use Rattle.desk.specs.InnerRun.{runOf}
 use Rattle.desk.proofs.LawRun.{run-most, run-by-codes, run-next, run-none, Filled, filled-next}
 use borrow.Author.Needs.{needs}

@@ -3,7 +3,7 @@ use Prim.Native.Nat.{_+_, _*_}
 use mathlib.Core.Path.{_≡_}
 use native.Mathlib.Omega.{arith}
 use borrow.Author.Needs.{needs}
-use Rattle.desk.specs.Book.{techniqueSize}
+use Rattle.headers.specs.Book.{techniqueSize}
 use Rattle.desk.proofs.technique.code_in.Statement.{statement}
 use Rattle.desk.proofs.technique.code_in.Tie as tie
 

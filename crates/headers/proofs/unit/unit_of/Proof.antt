@@ -1,9 +1,9 @@
 -- By the unit's code.
 use borrow.Author.Needs.{needs}
 use borrow.Author.Tests.{eq-eqb, ne-eqb}
-use Rattle.desk.specs.Unit.{unitOf}
-use Rattle.desk.proofs.unit.unit_of.Statement.{statement}
-use Rattle.desk.proofs.unit.unit_of.Tie as tie
+use Rattle.headers.specs.Unit.{unitOf}
+use Rattle.headers.proofs.unit.unit_of.Statement.{statement}
+use Rattle.headers.proofs.unit.unit_of.Tie as tie
 
 returns : tie.Need-returns
 unfolding unitOf

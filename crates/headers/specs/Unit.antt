@@ -3,7 +3,7 @@ use Prim.Native.Nat.{ℕ}
 use mathlib.Core.Bool.{cond}
 use mathlib.Core.List.{List}
 use lib.Dec.{eqb}
-use Rattle.desk.specs.Sheet.{sheetHeader}
+use Rattle.headers.specs.Sheet.{sheetHeader}
 
 -- one unit is 10 micrograms
 abbrev pub gram : ℕ

@@ -1,9 +1,9 @@
 -- One expression without branches: the list of conditions in the same order.
 use borrow.Author.Needs.{needs}
 use Rattle.search.specs.Test.{every}
-use Rattle.desk.specs.Sheet.{sheetHeaderOk}
-use Rattle.desk.proofs.sheet.sheet_header_ok.Statement.{statement}
-use Rattle.desk.proofs.sheet.sheet_header_ok.Tie as tie
+use Rattle.headers.specs.Sheet.{sheetHeaderOk}
+use Rattle.headers.proofs.sheet.sheet_header_ok.Statement.{statement}
+use Rattle.headers.proofs.sheet.sheet_header_ok.Tie as tie
 
 returns : tie.Need-returns
 unfolding every sheetHeaderOk
@@ -13,8 +13,8 @@ returns c =
       ← c .before .before .before .before .before .line-count .ensures .eq,
       ← c .before .before .before .before .byte-at .ensures .eq,
       ← c .before .before .before .byte-at2 .ensures .eq,
-      ← c .before .before .u32-at2 .ensures .eq,
-      ← c .before .u32-at3 .ensures .eq,
+      ← c .before .before .line-offset .ensures .eq,
+      ← c .before .u32-at2 .ensures .eq,
       ← c .file-ok .ensures,
     )
 

@@ -1,9 +1,9 @@
 -- One expression without branches: the list of conditions in the same order.
 use borrow.Author.Needs.{needs}
 use Rattle.search.specs.Test.{every}
-use Rattle.desk.specs.Book.{bookHeaderOk}
-use Rattle.desk.proofs.book.book_header_ok.Statement.{statement}
-use Rattle.desk.proofs.book.book_header_ok.Tie as tie
+use Rattle.headers.specs.Book.{bookHeaderOk}
+use Rattle.headers.proofs.book.book_header_ok.Statement.{statement}
+use Rattle.headers.proofs.book.book_header_ok.Tie as tie
 
 returns : tie.Need-returns
 unfolding every bookHeaderOk

@@ -1,6 +1,6 @@
 // The shown unit of a sheet.
 ghost use mathlib.Core.Path.{_≡_};
-ghost use Rattle.desk.specs.Unit.{unitOfSheet};
+ghost use Rattle.headers.specs.Unit.{unitOfSheet};
 use little::read::u32_at;
 
 // One unit is 10 micrograms.

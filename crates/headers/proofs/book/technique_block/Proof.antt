@@ -1,8 +1,8 @@
 -- The part from the offset that the header states, of as many techniques as it counts.
 use borrow.Author.Needs.{needs}
-use Rattle.desk.specs.Book.{techniqueBlock}
-use Rattle.desk.proofs.book.technique_block.Statement.{statement}
-use Rattle.desk.proofs.book.technique_block.Tie as tie
+use Rattle.headers.specs.Book.{techniqueBlock}
+use Rattle.headers.proofs.book.technique_block.Statement.{statement}
+use Rattle.headers.proofs.book.technique_block.Tie as tie
 
 returns : tie.Need-returns
 unfolding techniqueBlock

@@ -1,0 +1,4 @@
+pub mod House
+pub mod Book
+pub mod Sheet
+pub mod Unit

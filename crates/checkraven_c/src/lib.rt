@@ -1,5 +1,4 @@
 // The desk for C. A slice is a pointer and then a length.
-ghost use mathlib.Core.Path.{_≡_};
 ghost use Rattle.desk.specs.Lent.{lent};
 ghost use Rattle.checkraven_c.specs.Code.{Accounts};
 ghost use Rattle.checkraven_c.specs.TextCode.{Reports};

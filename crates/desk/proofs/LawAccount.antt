@@ -18,7 +18,7 @@ use Rattle.amounts.proofs.LawLine.{worked-line, sound}
 use Rattle.amounts.specs.declared.line.Worked.the-variants as worked
 use Rattle.settle.specs.Shown.{sum}
 use Rattle.headers.specs.Book.{techniqueBlock}
-use Rattle.desk.specs.Book.{techniqueEfficiency, bookOk, mostCoefficient}
+use Rattle.desk.specs.Book.{bookOk, mostCoefficient}
 use Rattle.desk.specs.Row.{rowOf}
 use Rattle.desk.specs.Technique.{techniqueHas, techniqueIndex}
 use Rattle.shares.specs.Share.{shareBy}

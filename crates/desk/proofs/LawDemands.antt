@@ -1,7 +1,7 @@
 -- The three demands hold of what the desk answers and leaves, because of which answer and which tables these are.
 use Prim.Native.Nat.{ℕ, zero, suc, _+_, _*_, _-_, _≤_, _<_, min}
 use mathlib.Core.Path.{_≡_, refl, sym, ap, _∙_}
-use mathlib.Core.Bool.{true, false}
+use mathlib.Core.Bool.{true}
 use mathlib.Core.List.{List, _++_, append-assoc}
 use mathlib.Core.Logic.{⊎-elim, _⊎_, inl, inr, _≢_}
 use native.Mathlib.Omega.{arith}
@@ -12,7 +12,6 @@ use lib.Seq.{drop-at}
 use borrow.Author.Tests.{ltb-false}
 use Rattle.search.proofs.LawTest.{clash, either-way}
 use Rattle.amounts.specs.Line.{wholeShare, amountsOf}
-use Rattle.amounts.specs.declared.line.Amounts.{Amounts}
 use Rattle.settle.specs.Shown.{at, sum}
 use Rattle.settle.specs.Step.{shownTable}
 use Rattle.settle.proofs.LawShown.{shown-length}
@@ -26,7 +25,7 @@ use Rattle.desk.specs.Sheet.{sheetOk}
 use Rattle.desk.specs.Cells.{width, tableSize, cellsOf}
 use Rattle.desk.specs.Account.{treatmentOf, generatedOf, inWater, byTreatment, byRow, excessive, accountOf, lineOutcome}
 use Rattle.answers.specs.Answer.{fileRule, lineRule, answerNumber, answerLine}
-use Rattle.desk.specs.Table.{rowGiven, rows, total, tableOf, byFiles, orLine, byLines, orElseLines, answerOf, cellsAfter}
+use Rattle.desk.specs.Table.{rowGiven, tableOf, byFiles, orLine, byLines, orElseLines, answerOf, cellsAfter}
 use Rattle.headers.specs.Unit.{unitOfSheet}
 use Rattle.desk.specs.Demands.{OfFile, OfLine, tableGrid, Demand1, LineDemand, cellAt, Demand2, Demand3}
 use Rattle.desk.specs.Declare.{shownAfter, BothAfter, Declared}
@@ -49,7 +48,7 @@ use Rattle.desk.specs.declared.cells.TableRow.{TableRow}
 use Rattle.desk.proofs.LawColumns.{sum-same}
 use Rattle.desk.proofs.LawAccount.{line-sound, line-balances}
 use Rattle.desk.proofs.LawTable.{ready, lines-few}
-use Rattle.desk.proofs.LawDeclare.{line-cell, table-size, sums-right, settles, first-cells}
+use Rattle.desk.proofs.LawDeclare.{line-cell, table-size, sums-right, settles}
 
 -- ---- demand 1: numbers and lines
 

@@ -20,7 +20,7 @@ use Rattle.headers.specs.House.{fileOk}
 use Rattle.desk.specs.Book.{bookOk}
 use Rattle.headers.specs.Sheet.{sheetHeader, sheetHeaderSize, sheetFits, sheetHeaderOk, lineCount, mostLines}
 use Rattle.desk.specs.Sheet.{linesOk, sheetOk}
-use Rattle.desk.specs.Cells.{width, tableSize, cellsOf, zeros, plus}
+use Rattle.desk.specs.Cells.{width, tableSize, cellsOf, plus}
 use Rattle.desk.specs.Tally.{add}
 use Rattle.desk.specs.Table.{rowGiven, rows, total, tableOf, byFiles, byLines, orElseLines, cellsAfter}
 use Rattle.desk.specs.Inner.{Fitting, Ready, Fillable, withRow}

@@ -4,7 +4,7 @@ ghost use mathlib.Core.Bool.{true};
 ghost use Prim.Native.Nat.{_<_};
 ghost use Rattle.little.specs.Read.{Reads};
 ghost use Rattle.desk.specs.Inner.{counted, farthest, LineIn};
-ghost use Rattle.headers.specs.Sheet.{sheetHeaderOk, lineCount};
+ghost use Rattle.headers.specs.Sheet.{sheetHeaderOk};
 ghost use Rattle.desk.specs.Sheet.{lineStart, lineOk, linesOk, sheetOk};
 use super::inside::byte_in;
 use super::inside::u64_in;

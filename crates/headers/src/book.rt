@@ -17,30 +17,35 @@ pub const MOST_ROWS: usize = 1024;
 
 pub const MOST_TECHNIQUES: usize = 4096;
 
+// The rows that the header states; 0 for a book that has no header.
 pub fn row_count(b: &[u8]) -> usize
     ensures { λ r. ⌜ Reads r (rowCount (now (b .entry))) u16Range ⌝ }
 {
     u16_at(b, 4)
 }
 
+// The techniques of the block, likewise.
 pub fn technique_count(b: &[u8]) -> usize
     ensures { λ r. ⌜ Reads r (techniqueCount (now (b .entry))) u16Range ⌝ }
 {
     u16_at(b, 6)
 }
 
+// Where the rows start, and where the technique block does; 0 for a book that has no header.
 pub fn row_offset(b: &[u8]) -> usize
     ensures { λ r. ⌜ Reads r (bookHeader (now (b .entry)) .rowOffset) u32Range ⌝ }
 {
     u32_at(b, 8)
 }
 
+// See row_offset.
 pub fn technique_offset(b: &[u8]) -> usize
     ensures { λ r. ⌜ Reads r (bookHeader (now (b .entry)) .techniqueOffset) u32Range ⌝ }
 {
     u32_at(b, 12)
 }
 
+// Whether a book of any content and size has a header that fits.
 pub fn book_header_ok(b: &[u8]) -> bool
     ensures { λ r. ⌜ r ≡ bookHeaderOk (now (b .entry)) ⌝ }
 {
@@ -57,7 +62,7 @@ pub fn book_header_ok(b: &[u8]) -> bool
     file_ok(b, 0, HEADER_SIZE) & fits
 }
 
-// The technique block is a part of the book that begins at its offset.
+// The technique block is a part of the book that begins at its offset; of a book that has not so many bytes, what is there of it.
 pub fn technique_block(b: &[u8]) -> &[u8]
     ensures { λ r. ⌜ now r ≡ techniqueBlock (now (b .entry)) ⌝ }
 {

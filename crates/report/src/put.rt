@@ -1,6 +1,5 @@
 // Words and numbers put into a text, one after the other. Each function answers the place where what it put ends, also past the end of the
 // text, so that at last the report's length is known even where the text has no room for it.
-ghost use mathlib.Core.Path.{_≡_};
 ghost use Prim.Native.Nat.{_+_, _≤_};
 ghost use lib.ListN.{length};
 ghost use Rattle.report.specs.Report.{mostNumber, numberText};

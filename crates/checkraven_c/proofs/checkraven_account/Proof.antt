@@ -1,5 +1,5 @@
 -- The desk's answer has a number and a line, each a u16, and these are put together.
-use mathlib.Core.Path.{sym, ap}
+use mathlib.Core.Path.{ap}
 use borrow.Author.Needs.{needs}
 use Rattle.checkraven_c.specs.Code.{codeOf}
 use Rattle.checkraven_c.proofs.checkraven_account.Statement.{statement}

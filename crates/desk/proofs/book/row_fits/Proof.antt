@@ -2,7 +2,6 @@
 use mathlib.Core.Bool.{Bool, _&&_}
 use mathlib.Core.Path.{ap, sym, _∙_}
 use lib.Dec.{leb}
-use native.Mathlib.Omega.{arith}
 use Rattle.search.specs.Test.{every}
 use Rattle.desk.specs.Book.{mostCoefficient}
 use Rattle.desk.specs.Inner.{rowFits}

@@ -1,6 +1,5 @@
 -- Field by field, from where the line starts.
 use native.Mathlib.Omega.{arith}
-use mathlib.Core.Path.{_∙_}
 use borrow.Author.Needs.{needs}
 use Rattle.desk.specs.Line.{lineOf}
 use Rattle.desk.proofs.line.line_of.Statement.{statement}

@@ -3,7 +3,6 @@ use mathlib.Core.Path.{sym, _∙_}
 use native.Mathlib.Omega.{arith}
 use borrow.Author.Needs.{needs}
 use Rattle.search.proofs.LawCut.{cut-here, cut-other, cut-none}
-use Rattle.desk.specs.Row.{rowHas}
 use Rattle.desk.proofs.LawBook.{good-row-in}
 use Rattle.desk.proofs.LawOrder.{before-other, past-other}
 use Rattle.desk.proofs.row.index_of.Statement.{statement}

@@ -1,6 +1,5 @@
 -- The order of the keys, by their two numbers.
 use mathlib.Core.Path.{_∙_}
-use native.Mathlib.Omega.{arith}
 use Rattle.desk.specs.Inner.{rowBefore}
 use Rattle.desk.proofs.LawOrder.{packed-is}
 use borrow.Author.Needs.{needs}

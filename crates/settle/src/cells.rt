@@ -4,7 +4,10 @@ ghost use Rattle.settle.specs.Inner.{Bounded, Cell};
 ghost use Rattle.settle.specs.Step as spec;
 ghost use lib.ListN.{length};
 ghost use mathlib.Core.Path.{_≡_};
+use crate::LARGE_UNIT;
 use crate::LIMIT;
+use crate::MIDDLE_UNIT;
+use crate::SMALL_UNIT;
 
 pub(crate) fn copy(from: &[u64], t: &mut [u64])
     requires { ⌜ length (now t) ≡ length (now from) ⌝ }
@@ -41,7 +44,7 @@ pub(crate) fn mirror(t: &mut [u64], k: usize, n: usize)
     }
 }
 
-pub(crate) fn divide(t: &mut [u64], w: u64)
+fn divide_by(t: &mut [u64], w: u64)
     requires { ⌜ 0 < w ⌝ }
     ensures { λ _. ⌜ now (t .exit) ≡ spec.units w (now (t .entry)) ⌝ }
 {
@@ -50,4 +53,24 @@ pub(crate) fn divide(t: &mut [u64], w: u64)
         t[i] = t[i] / w;
         i += 1;
     }
+}
+
+// The same, compiled for each usual unit by itself.
+pub(crate) fn divide(t: &mut [u64], w: u64)
+    requires { ⌜ 0 < w ⌝ }
+    ensures { λ _. ⌜ now (t .exit) ≡ spec.units w (now (t .entry)) ⌝ }
+{
+    if w == SMALL_UNIT {
+        divide_by(t, SMALL_UNIT);
+        return;
+    }
+    if w == MIDDLE_UNIT {
+        divide_by(t, MIDDLE_UNIT);
+        return;
+    }
+    if w == LARGE_UNIT {
+        divide_by(t, LARGE_UNIT);
+        return;
+    }
+    divide_by(t, w);
 }

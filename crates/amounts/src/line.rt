@@ -39,8 +39,8 @@ fn of_whole(x: u64, u: u64) -> u64
     x / WHOLE_SHARE * u + x % WHOLE_SHARE * u / WHOLE_SHARE
 }
 
-// What is removed by a treatment that ran n / d of the time. Efficiency comes first, since a whole is a number that is known: it leaves
-// a quotient and a remainder, and the share n of each is divided by d alone, which is no long division where d is short.
+// What a treatment removes that ran n / d of the time. Efficiency is taken first, since WHOLE_SHARE is known when this is compiled; what
+// that leaves over is carried along, so that the one long division is by d alone.
 fn removed(generated: u64, efficiency: u64, n: u64, d: u64) -> u64
     requires { ⌜ (efficiency ≤ wholeShare) × (n ≤ d) × (0 < d) × (d ≤ mostDivisor) ⌝ }
     ensures { λ q. ⌜ q ≡ removedOf generated efficiency n d ⌝ }

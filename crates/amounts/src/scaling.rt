@@ -93,7 +93,7 @@ fn by_digits(x: u64, n: u64, d: u64, k: u64) -> Part
     }
 }
 
-// The quotient and the remainder of x · n by d. By a divisor of 32 bits, what is left of x by it times n fits 64.
+// The quotient and the remainder of x · n by d. Where d has 32 bits, so has what x leaves by d, and that times n fits 64.
 pub(crate) fn divided(x: u64, n: u64, d: u64) -> Part
     requires { ⌜ (n ≤ d) × (0 < d) × (d ≤ 2 ^ 62) ⌝ }
     ensures { λ s. ⌜ Parts (x * n) d (s .q) (s .r) ⌝ }

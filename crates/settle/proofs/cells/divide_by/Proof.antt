@@ -3,7 +3,8 @@ use mathlib.Core.Path.{refl}
 use Prim.Native.Nat.{_≤_, _-_, _/_}
 use native.Mathlib.Omega.{arith}
 use lib.ListN.{length}
-use Rattle.settle.proofs.LawCells.{Written, written-none, written-more, written-all, length-units, at-units}
+use Rattle.settle.specs.Inner.{Written}
+use Rattle.settle.proofs.LawCells.{written-none, written-more, written-all, length-units, at-units}
 use borrow.Author.Needs.{needs}
 use Rattle.settle.proofs.cells.divide_by.Statement.{statement}
 use Rattle.settle.proofs.cells.divide_by.Tie as tie

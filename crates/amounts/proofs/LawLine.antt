@@ -1,16 +1,20 @@
--- The test goes conjunct by conjunct. The code's D, what is left less U rounded down, is the paper's, rounded up, because reuse and its
--- rest make the whole. D's bounds add up what the two roundings lose, each less than a unit. Assumes nothing.
+-- The test goes conjunct by conjunct. R by a whole and then by d is R by both at once, since floors nest. The code's D, what is left
+-- less U rounded down, is the paper's, rounded up, because reuse and its rest make the whole. D's bounds add up what the two roundings
+-- lose, each less than a unit. Assumes nothing.
 use mathlib.Core.Path.{_≡_, refl, sym, ap, _∙_}
 use mathlib.Core.Bool.{Bool, true, false, _&&_}
-use Prim.Native.Nat.{ℕ, suc, _+_, _-_, _*_, _/_, _%_, _≤_, _<_}
+use Prim.Native.Nat.{ℕ, suc, _+_, _-_, _*_, _/_, _%_, _^_, _≤_, _<_}
 use native.Mathlib.Nat.{mul-le-mul, mul-le-mul-right, mul-le-mul-left, mod-lt, div-add-mod', div-le-of-le-mul, mul-assoc, one-mul}
+use native.Mathlib.Nat.{div-div-eq-div-mul}
 use native.Mathlib.Omega.{arith}
 use borrow.Author.Tests.{le-leb, lt-ltb, leb-true, ltb-true}
+use Rattle.amounts.specs.Inner.{Parts, Room}
 use Rattle.amounts.specs.Rounding.{roundedUp}
 use Rattle.amounts.specs.declared.line.Amounts.{Amounts}
 use Rattle.amounts.specs.declared.line.Worked.the-variants.{Line}
 use Rattle.amounts.specs.Line.{wholeShare, removedOf, reusedOf, dischargedOf, amountsOf, Admissible, admissible, workedOf}
 use Rattle.amounts.specs.Line.{_over_, whole, unused, manualValue, Sound}
+use Rattle.amounts.proofs.LawScaling.{is-quotient, room-most}
 
 -- ---- the test
 
@@ -60,11 +64,46 @@ rounded-up x u h = go (wholeShare - u) (omega arith)
     go : (w : ℕ) → u + w ≡ wholeShare → x - x * u / wholeShare ≡ roundedUp (x * w) wholeShare
     go w e = omega (arith, ap (λ (y : ℕ). x * y) e)
 
--- ---- the amounts
+-- ---- what is removed
 
 removed-is : (G e n d : ℕ) → G * (e * n) / (wholeShare * d) ≡ removedOf G e n d
 unfolding removedOf
 removed-is G e n d = ap (λ (y : ℕ). y / (wholeShare * d)) (sym (mul-assoc G e n))
+
+pub removed-most : (G e n d : ℕ) → e ≤ wholeShare → n ≤ d → removedOf G e n d ≤ G
+removed-most G e n d h k = rw (← removed-is G e n d) (part-most G (e * n) (wholeShare * d) (mul-le-mul h k))
+
+-- what efficiency leaves over; its share n is below d
+abbrev pub remnant : (G e : ℕ) → ℕ
+remnant G e = G % wholeShare * e % wholeShare
+
+pub remnant-share : (G e n d : ℕ) → n ≤ d → 0 < d → remnant G e * n / wholeShare < d
+remnant-share G e n d h p =
+    let most : remnant G e ≤ 999 = omega arith in
+    omega (arith, mul-le-mul-right n most)
+
+-- the share n of the quotient and that of what is left over make the share n of both
+by-shares : (G e n : ℕ) → G * e / wholeShare * n + remnant G e * n / wholeShare ≡ G * e * n / wholeShare
+by-shares G e n =
+    let split : G * e ≡ G * e / wholeShare * wholeShare + remnant G e = omega (arith, ap (λ (y : ℕ). y * e) (div-add-mod' G wholeShare)) in
+    omega (arith, ap (λ (y : ℕ). y * n) split)
+
+-- a is the quotient, and its share n is q · d + r
+module _ (G e n d a q r : ℕ) (treated : a ≡ G * e / wholeShare) (ran : Parts (a * n) d q r) where
+  sum-is : (q + 0) * d + (r + remnant G e * n / wholeShare) ≡ G * e * n / wholeShare
+  sum-is = omega (arith, ran .whole, ap (λ (y : ℕ). y * n) treated, by-shares G e n)
+
+  pub removed-room : e ≤ wholeShare → n ≤ d → 0 < d → G < 2 ^ 64 → Room ((q + 0) * d + (r + remnant G e * n / wholeShare)) d
+  removed-room h k p f =
+      let most : G * (e * n) ≤ G * (wholeShare * d) = mul-le-mul-left G (mul-le-mul h k) in
+      room-most _ G d (rw sum-is (omega arith)) f p
+
+  pub removed-by : (s t : ℕ) → Parts ((q + 0) * d + (r + remnant G e * n / wholeShare)) d s t → s ≡ removedOf G e n d
+  unfolding removedOf
+  removed-by s t w =
+      is-quotient _ d s t w ∙ ap (λ (y : ℕ). y / d) sum-is ∙ div-div-eq-div-mul (G * e * n) wholeShare d
+
+-- ---- the amounts
 
 abbrev cells : (G R U D : ℕ) → Amounts
 cells G R U D = record { generated = G; removed = R; reused = U; discharged = D }
@@ -73,19 +112,16 @@ same : (G : ℕ) {r r′ u u′ d d′ : ℕ} → r ≡ r′ → u ≡ u′ → 
 same G p q s i = record { generated = G; removed = p i; reused = q i; discharged = s i }
 
 -- what the code makes, in water and elsewhere
-module _ (G e n d u r : ℕ) (water : Bool) (removed : r ≡ G * (e * n) / (wholeShare * d)) where
+module _ (G e n d u r : ℕ) (water : Bool) (removed : r ≡ removedOf G e n d) where
   pub in-water : (v : ℕ) → water ≡ true → u ≤ wholeShare → v ≡ (G - r) * u / wholeShare
       → cells G r v (G - r - v) ≡ amountsOf G e n d u water
   unfolding reusedOf dischargedOf
   in-water v h k q =
-      let R = removed ∙ removed-is G e n d in
-      simp (← R, h) (same G refl q (ap (λ (y : ℕ). G - r - y) q ∙ rounded-up (G - r) u k))
+      simp (← removed, h) (same G refl q (ap (λ (y : ℕ). G - r - y) q ∙ rounded-up (G - r) u k))
 
   pub elsewhere : water ≡ false → cells G r 0 (G - r) ≡ amountsOf G e n d u water
   unfolding reusedOf dischargedOf
-  elsewhere h =
-      let R = removed ∙ removed-is G e n d in
-      simp (← R, h)
+  elsewhere h = simp (← removed, h)
 
 -- ---- what is owed of them
 
@@ -128,7 +164,7 @@ sound G e n d u water a =
     let X = G - R in
     let is : G * E / N ≡ R = removed-is G e n d in
     let most : E ≤ N = mul-le-mul (a .efficiency) (a .fraction) in
-    let R-most : R ≤ G = rw (← is) (part-most G E N most) in
+    let R-most : R ≤ G = removed-most G e n d (a .efficiency) (a .fraction) in
     let P = parts X u water (a .reuse) in
     let C = ceiling (X * unused u water) in
     let D = dischargedOf X u water in

@@ -3,9 +3,10 @@
 use mathlib.Core.Path.{_≡_, sym, ap, _∙_}
 use Prim.Native.Nat.{ℕ, _+_, _*_, _/_, _%_, _^_, _≤_, _<_}
 use native.Mathlib.Nat.{lt-of-mul-lt-mul-right, le-of-mul-le-mul-right, mul-le-mul-left, mul-le-mul-right, mul-lt-mul-of-pos-right}
-use native.Mathlib.Nat.{lt-of-le-of-lt, div-add-mod', mod-lt, div-mul-le-self, div-lt-self}
+use native.Mathlib.Nat.{mul-le-mul, lt-of-le-of-lt, div-add-mod', mod-lt, div-mul-le-self, div-lt-self}
 use native.Mathlib.Omega.{arith}
 use lib.Arith.{digits-div}
+use lib.Dec.{lit<}
 use lib.Pow.{pow-mono}
 use Rattle.amounts.specs.Inner.{Digit, Parts, Room}
 
@@ -29,10 +30,13 @@ room-less : (d v w : ℕ) → v ≤ w → Room w d → Room v d
 unfolding Room
 room-less d v w h k = lt-of-le-of-lt h k
 
+pub room-most : (v x d : ℕ) → v ≤ x * d → x < 2 ^ 64 → 0 < d → Room v d
+unfolding Room
+room-most v x d h k p = lt-of-le-of-lt h (mul-lt-mul-of-pos-right k p)
+
 -- x · n by d has room, as n is at most d
 pub room-scaled : (x n d : ℕ) → x < 2 ^ 64 → n ≤ d → 0 < d → Room (x * (n / d * d + n % d)) d
-unfolding Room
-room-scaled x n d h k p = rw (div-add-mod' n d) (lt-of-le-of-lt (mul-le-mul-left x k) (mul-lt-mul-of-pos-right h p))
+room-scaled x n d h k p = rw (div-add-mod' n d) (room-most _ x d (mul-le-mul-left x k) h p)
 
 -- ---- from x / 2 times v to x times v
 
@@ -101,6 +105,25 @@ quotient-most x n d q r e h p = le-of-mul-le-mul-right (omega (arith, mul-le-mul
 pub high-most : (b x n d q r : ℕ) → q * d + r ≡ x / b * n → n ≤ d → 0 < d → q * b ≤ x
 high-most b x n d q r e h p =
     omega (arith, mul-le-mul-right b (quotient-most (x / b) n d q r e h p), div-mul-le-self x b)
+
+-- ---- a short divisor: the wholes of x by d, and what is left of x
+
+pub short-parts : (x n d : ℕ) → 0 < d → Parts (x * n) d (x / d * n + x % d * n / d) (x % d * n % d)
+short-parts x n d h =
+    record {
+      whole = omega (arith, div-add-mod' (x % d * n) d, ap (λ (y : ℕ). y * n) (div-add-mod' x d));
+      rest = mod-lt _ h;
+    }
+
+-- ... neither of which is too large
+pub short-wholes : (x n d : ℕ) → n ≤ d → x / d * n ≤ x
+short-wholes x n d h = omega (arith, mul-le-mul-left (x / d) h, div-mul-le-self x d)
+
+pub short-left : (x n d : ℕ) → 0 < d → n ≤ d → d < 2 ^ 32 → x % d * n < 2 ^ 64
+short-left x n d h k l =
+    let left : x % d ≤ 4_294_967_295 = omega (arith, mod-lt x h) in
+    let share : n ≤ 4_294_967_295 = omega arith in
+    lt-of-le-of-lt (mul-le-mul left share) (lit< tt)
 
 -- ---- the quotient at last
 

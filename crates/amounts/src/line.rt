@@ -1,8 +1,9 @@
 // From a line's generated amount to what is removed, reused and discharged.
 ghost use mathlib.Core.Path.{_≡_};
 ghost use Prim.Native.Nat.{_*_, _/_, _≤_, _<_};
-ghost use Rattle.amounts.specs.Line.{wholeShare, Admissible, admissible, amountsOf, workedOf};
-use super::scaling::share;
+ghost use Rattle.amounts.specs.Line.{wholeShare, mostDivisor, Admissible, admissible, removedOf, amountsOf, workedOf};
+use super::scaling::divided;
+use super::scaling::plus;
 
 // Efficiency and reuse are in tenths of a percent: this many make the whole.
 pub const WHOLE_SHARE: u64 = 1000;
@@ -38,11 +39,24 @@ fn of_whole(x: u64, u: u64) -> u64
     x / WHOLE_SHARE * u + x % WHOLE_SHARE * u / WHOLE_SHARE
 }
 
+// What a treatment removes that ran n / d of the time. Efficiency is taken first, since WHOLE_SHARE is known when this is compiled; what
+// that leaves over is carried along, so that the one long division is by d alone.
+fn removed(generated: u64, efficiency: u64, n: u64, d: u64) -> u64
+    requires { ⌜ (efficiency ≤ wholeShare) × (n ≤ d) × (0 < d) × (d ≤ mostDivisor) ⌝ }
+    ensures { λ q. ⌜ q ≡ removedOf generated efficiency n d ⌝ }
+{
+    let treated = of_whole(generated, efficiency);
+    let rest = generated % WHOLE_SHARE * efficiency % WHOLE_SHARE;
+    let ran = divided(treated, n, d);
+    let all = plus(ran.q, ran.r, 0, rest * n / WHOLE_SHARE, d);
+    all.q
+}
+
 fn apportion(generated: u64, efficiency: u64, n: u64, d: u64, reuse: u64, water: bool) -> Amounts
     requires { ⌜ Admissible efficiency n d reuse ⌝ }
     ensures { λ a. ⌜ a ≡ amountsOf generated efficiency n d reuse water ⌝ }
 {
-    let removed = share(generated, efficiency * n, WHOLE_SHARE * d);
+    let removed = removed(generated, efficiency, n, d);
     let left = generated - removed;
     if water {
         let reused = of_whole(left, reuse);

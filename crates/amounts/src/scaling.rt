@@ -5,13 +5,13 @@ ghost use Rattle.amounts.specs.Inner.{Digit, Parts, Room};
 ghost use Rattle.amounts.specs.Scaling.{scaledOf};
 
 // The number q · d + r, for a divisor d that both sides know.
-struct Part {
-    q: u64,
-    r: u64,
+pub(crate) struct Part {
+    pub(crate) q: u64,
+    pub(crate) r: u64,
 }
 
 // The sum of (q, r) and (m, n). The test is on what is left of d, so that no sum of two remainders can wrap.
-fn plus(q: u64, r: u64, m: u64, n: u64, d: u64) -> Part
+pub(crate) fn plus(q: u64, r: u64, m: u64, n: u64, d: u64) -> Part
     requires { ⌜ (r < d) × (n < d) × Room ((q + m) * d + (r + n)) d ⌝ }
     ensures { λ s. ⌜ Parts ((q + m) * d + (r + n)) d (s .q) (s .r) ⌝ }
 {
@@ -93,13 +93,28 @@ fn by_digits(x: u64, n: u64, d: u64, k: u64) -> Part
     }
 }
 
+// The quotient and the remainder of x · n by d. Where d has 32 bits, so has what x leaves by d, and that times n fits 64.
+pub(crate) fn divided(x: u64, n: u64, d: u64) -> Part
+    requires { ⌜ (n ≤ d) × (0 < d) × (d ≤ 2 ^ 62) ⌝ }
+    ensures { λ s. ⌜ Parts (x * n) d (s .q) (s .r) ⌝ }
+{
+    if d < 0x1_0000_0000 {
+        let t = x % d * n;
+        return Part {
+            q: x / d * n + t / d,
+            r: t % d,
+        };
+    }
+    by_digits(x, n, d, digits_at_once(d))
+}
+
 // The whole part of x · n / d, for a share n / d of at most the whole.
-pub(crate) fn share(x: u64, n: u64, d: u64) -> u64
+fn share(x: u64, n: u64, d: u64) -> u64
     requires { ⌜ (n ≤ d) × (0 < d) ⌝ }
     ensures { λ q. ⌜ q ≡ x * n / d ⌝ }
 {
     if d <= 0x4000_0000_0000_0000 {
-        let shared = by_digits(x, n, d, digits_at_once(d));
+        let shared = divided(x, n, d);
         return shared.q;
     }
     let whole = doubled(x, n / d, n % d, d);

@@ -9,14 +9,15 @@ use native.Mathlib.Nat.{div-eq-of-lt-le}
 use native.Mathlib.Decide.{ℕ-discrete, decLt}
 use native.Mathlib.Omega.{arith}
 use lib.Arith.{digits-mod, digits-lt}
-use lib.ListN.{length, List·getD-eq-default}
+use lib.ListN.{length, set, List·getD-eq-default}
 use lib.Seq.{ext-getD}
 use Rattle.settle.specs.Grid.{Grid, area}
 use Rattle.settle.specs.Shown.{at, Whole, sum, Sums}
 use Rattle.settle.specs.Table.{limit, Shape, Good}
 use Rattle.settle.specs.Step.{whole?, mirrorCell, mirrors, mirror, looseCell, loose}
 use Rattle.settle.specs.Moves.{Within}
-use Rattle.settle.specs.Inner.{Bounded, Even, Table}
+use Rattle.settle.specs.Inner.{Bounded, Even, Table, Written}
+use Rattle.settle.proofs.LawCells.{written-more, written-on}
 use Rattle.settle.proofs.LawLine.{pick-yes, pick-no, by-dec}
 use Rattle.settle.proofs.LawNear.{within-refl}
 use Rattle.settle.proofs.LawRound.{cell-whole, cell-loose}
@@ -104,6 +105,33 @@ module _ (K n : ℕ) (hK : 0 < K) where
       let q : (n - 1) * K + c + K < n * K → ⊥ = omega (arith, last-row K l) in
       pick-no (decLt ((n - 1) * K + c + K) (n * K)) _ _ q
       ∙ pick-no (ℕ-discrete (((n - 1) * K + c) % K) 0) _ _ (λ e. y (sym (digits-mod (n - 1) z) ∙ e))
+
+  -- the mirror as it is written: row after row above the last, then cell after cell of the last
+  module _ {t₀ t : List ℕ} where
+    pub written-row : (r : ℕ) → Written (mirrorCell K n) (r * K) t₀ t → r + 1 < n → r * K < length t →
+        Written (mirrorCell K n) ((r + 1) * K) t₀ (set t (r * K) (limit - at t (r * K)))
+    written-row r h l s =
+        let e : r * K + 0 ≡ r * K = omega arith in
+        let minus = rw e at (minus-above r (at t (r * K)) l) in
+        written-on (written-more h s (sym minus)) (omega arith)
+        (λ j a b x.
+        let d : r * K + (j - r * K) ≡ j = omega arith in
+        rw d at (plus-above r (j - r * K) x l (omega arith) (λ z. omega arith)))
+
+    pub written-rows : (r : ℕ) → Written (mirrorCell K n) (r * K) t₀ t → 0 < n → r ≡ n - 1 → Written (mirrorCell K n) ((n - 1) * K + 1) t₀ t
+    written-rows r h l q =
+        written-on (rw q at h) (omega arith)
+        (λ j a b x.
+        let d : (n - 1) * K + 0 ≡ j = omega arith in
+        rw d at (plus-last 0 x l refl))
+
+    pub written-last : (i : ℕ) → Written (mirrorCell K n) i t₀ t → 0 < n → (n - 1) * K + 1 ≤ i → i < n * K → i < length t →
+        Written (mirrorCell K n) (i + 1) t₀ (set t i (limit - at t i))
+    written-last i h l a b s =
+        let d : (n - 1) * K + (i - (n - 1) * K) ≡ i = omega arith in
+        let c = minus-last (i - (n - 1) * K) (at t i) l (omega (arith, last-row K l)) (λ z. omega arith) in
+        let minus = rw d at c in
+        written-more h s (sym minus)
 
 -- two tables of which each is the other with its minus cells complemented
 record Signed (K n : ℕ) (t z : List ℕ) : Type 0 where

@@ -30,18 +30,18 @@ pub record Bounded (K n : ℕ) (t : List ℕ) : Type 0 where
   pub frame : Frame K n t
   pub most : (i : ℕ) → at t i ≤ limit
 
--- the cell x at place j of such a list
-pub record Cell (K n j x : ℕ) : Type 0 where
-  pub small : Small K n
-  pub inside : j < n * K
-  pub most : x ≤ limit
-
 -- the line b, b + s, .., of m places is in the list, and the place after its last is at most a row past the largest table's end
 pub record Line (t : List ℕ) (b s m : ℕ) : Type 0 where
   pub cells : (k : ℕ) → k < m → b + k * s < length t
   pub small : b + m * s ≤ mostCells + mostColumns
 
 -- ---- the mirror of a table
+
+-- t is t₀ with f put to work on the cells before place i (f has the place and the old cell)
+pub record Written (f : ℕ → ℕ → ℕ) (i : ℕ) (t₀ t : List ℕ) : Type 0 where
+  pub size : length t ≡ length t₀
+  pub done : (j : ℕ) → j < i → at t j ≡ f j (at t₀ j)
+  pub rest : (j : ℕ) → i ≤ j → at t j ≡ at t₀ j
 
 -- every row and every column sums to a whole number of units
 pub record Even (W K n : ℕ) (t : List ℕ) : Type 0 where

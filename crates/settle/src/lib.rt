@@ -21,6 +21,13 @@ use table::is_good;
 // What a cell may be at most; a unit divides it.
 pub const LIMIT: u64 = 16_000_000_000_000_000_000;
 
+// Units that are usual. Only speed hangs on them: a division by a number that is known when it is compiled is a multiplication.
+pub(crate) const SMALL_UNIT: u64 = 100_000;
+
+pub(crate) const MIDDLE_UNIT: u64 = 100_000_000;
+
+pub(crate) const LARGE_UNIT: u64 = 100_000_000_000;
+
 pub const MOST_COLUMNS: usize = 5;
 
 pub const MOST_ROWS: usize = 129;

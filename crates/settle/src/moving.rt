@@ -3,6 +3,9 @@ ghost use Prim.Native.Nat.{_<_, min};
 ghost use Rattle.settle.specs.Inner as inner;
 ghost use Rattle.settle.specs.Step as spec;
 ghost use mathlib.Core.Path.{_≡_};
+use crate::LARGE_UNIT;
+use crate::MIDDLE_UNIT;
+use crate::SMALL_UNIT;
 
 // Whether the round's cells go up, where the marked cell is to go up (`lift`) or down: as it has to if it is one of them, else the other
 // way, so that it goes as it has to where it is a twin.
@@ -41,7 +44,7 @@ fn lesser(a: u64, b: u64) -> u64
 }
 
 // The least room over the round, which is left by column x.
-fn least(t: &[u64], w: u64, k: usize, up: bool, x: usize, us: &[usize]) -> u64
+fn least_by(t: &[u64], w: u64, k: usize, up: bool, x: usize, us: &[usize]) -> u64
     requires { ⌜ inner.Measured w k (now t) x (now us) ⌝ }
     ensures { λ a. ⌜ a ≡ spec.least w k up (now (t .entry)) x (now (us .entry)) ⌝ }
 {
@@ -58,6 +61,23 @@ fn least(t: &[u64], w: u64, k: usize, up: bool, x: usize, us: &[usize]) -> u64
         i += 1;
     }
     best
+}
+
+// The same, compiled for each usual unit by itself.
+fn least(t: &[u64], w: u64, k: usize, up: bool, x: usize, us: &[usize]) -> u64
+    requires { ⌜ inner.Measured w k (now t) x (now us) ⌝ }
+    ensures { λ a. ⌜ a ≡ spec.least w k up (now (t .entry)) x (now (us .entry)) ⌝ }
+{
+    if w == SMALL_UNIT {
+        return least_by(t, SMALL_UNIT, k, up, x, us);
+    }
+    if w == MIDDLE_UNIT {
+        return least_by(t, MIDDLE_UNIT, k, up, x, us);
+    }
+    if w == LARGE_UNIT {
+        return least_by(t, LARGE_UNIT, k, up, x, us);
+    }
+    least_by(t, w, k, up, x, us)
 }
 
 // The round's cells up by p and down by m, their twins the other way. (The contract counts in units of w.)

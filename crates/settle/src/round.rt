@@ -2,10 +2,13 @@
 ghost use Rattle.settle.specs.Inner as inner;
 ghost use Rattle.settle.specs.Step as spec;
 ghost use mathlib.Core.Path.{_≡_};
+use crate::LARGE_UNIT;
+use crate::MIDDLE_UNIT;
 use crate::MOST_COLUMNS;
+use crate::SMALL_UNIT;
 
 // The first loose place, other than q, of the line b, b + s, .., of m places; m if there is none. Nothing is searched before place f.
-pub(crate) fn seek(t: &[u64], w: u64, b: usize, s: usize, q: usize, f: usize, m: usize) -> usize
+fn seek_by(t: &[u64], w: u64, b: usize, s: usize, q: usize, f: usize, m: usize) -> usize
     requires { ⌜ inner.Sought w (now t) b s q f m ⌝ }
     ensures { λ r. ⌜ r ≡ spec.seek w (now (t .entry)) b s q m 0 ⌝ }
 {
@@ -23,8 +26,25 @@ pub(crate) fn seek(t: &[u64], w: u64, b: usize, s: usize, q: usize, f: usize, m:
     m
 }
 
+// The same, compiled for each usual unit by itself.
+pub(crate) fn seek(t: &[u64], w: u64, b: usize, s: usize, q: usize, f: usize, m: usize) -> usize
+    requires { ⌜ inner.Sought w (now t) b s q f m ⌝ }
+    ensures { λ r. ⌜ r ≡ spec.seek w (now (t .entry)) b s q m 0 ⌝ }
+{
+    if w == SMALL_UNIT {
+        return seek_by(t, SMALL_UNIT, b, s, q, f, m);
+    }
+    if w == MIDDLE_UNIT {
+        return seek_by(t, MIDDLE_UNIT, b, s, q, f, m);
+    }
+    if w == LARGE_UNIT {
+        return seek_by(t, LARGE_UNIT, b, s, q, f, m);
+    }
+    seek_by(t, w, b, s, q, f, m)
+}
+
 // How many of the path's columns, newest first, are whole in row r before one is loose there.
-fn closes(t: &[u64], w: u64, k: usize, r: usize, path: &[usize]) -> usize
+fn closes_by(t: &[u64], w: u64, k: usize, r: usize, path: &[usize]) -> usize
     requires { ⌜ inner.SoughtRow w k (now t) r ⌝ }
     ensures { λ a. ⌜ a ≡ spec.closes w k (now (t .entry)) r (now (path .entry)) ⌝ }
 {
@@ -38,6 +58,23 @@ fn closes(t: &[u64], w: u64, k: usize, r: usize, path: &[usize]) -> usize
         i += 1;
     }
     i
+}
+
+// The same, compiled for each usual unit by itself.
+fn closes(t: &[u64], w: u64, k: usize, r: usize, path: &[usize]) -> usize
+    requires { ⌜ inner.SoughtRow w k (now t) r ⌝ }
+    ensures { λ a. ⌜ a ≡ spec.closes w k (now (t .entry)) r (now (path .entry)) ⌝ }
+{
+    if w == SMALL_UNIT {
+        return closes_by(t, SMALL_UNIT, k, r, path);
+    }
+    if w == MIDDLE_UNIT {
+        return closes_by(t, MIDDLE_UNIT, k, r, path);
+    }
+    if w == LARGE_UNIT {
+        return closes_by(t, LARGE_UNIT, k, r, path);
+    }
+    closes_by(t, w, k, r, path)
 }
 
 // The cells by which a round's rows are entered, newest first, from place `at` to before `end`.

@@ -7,7 +7,7 @@ use Rattle.amounts.proofs.scaling.share.Statement.{statement}
 use Rattle.amounts.proofs.scaling.share.Tie as tie
 
 returns : tie.Need-returns
-returns c = is-quotient _ _ _ _ (c .by-digits .ensures)
+returns c = is-quotient _ _ _ _ (c .divided .ensures)
 
 doubled-requires : tie.Need-doubled-requires
 doubled-requires c κs = let z = c .before in (mod-lt _ (z .pre .1), room-scaled _ _ _ (z .fits .x .fits) (z .pre .0) (z .pre .1))
@@ -18,4 +18,4 @@ returns-2 c = let z = c .before .before in is-quotient _ _ _ _ (c .doubled .ensu
 pub share-spec : {M : Type 1} → statement M
 share-spec =
     tie.close
-    (tie.spec (λ c κs. search needs) (λ c κs. search needs) returns (λ c. search needs) (λ c. search needs) doubled-requires returns-2)
+    (tie.spec (λ c κs. search needs) returns (λ c. search needs) (λ c. search needs) doubled-requires returns-2)

@@ -5,7 +5,8 @@ use native.Mathlib.Omega.{arith}
 use borrow.Author.Needs.{needs}
 use lib.ListN.{length}
 use Rattle.settle.specs.Shown.{at}
-use Rattle.settle.proofs.LawCells.{Written, written-none, written-more, written-all}
+use Rattle.settle.specs.Inner.{Written}
+use Rattle.settle.proofs.LawCells.{written-none, written-more, written-all}
 use Rattle.settle.proofs.cells.copy.Statement.{statement}
 use Rattle.settle.proofs.cells.copy.Tie as tie
 

@@ -1,30 +1,21 @@
--- Before place i the cells are in whole units; at the end all are.
-use mathlib.Core.Path.{refl}
-use Prim.Native.Nat.{_≤_, _-_, _/_}
-use native.Mathlib.Omega.{arith}
-use lib.ListN.{length}
-use Rattle.settle.proofs.LawCells.{Written, written-none, written-more, written-all, length-units, at-units}
+-- A usual unit is the unit where the two are equal, so what is asked and answered of the one is asked and answered of the other.
 use borrow.Author.Needs.{needs}
 use Rattle.settle.proofs.cells.divide.Statement.{statement}
 use Rattle.settle.proofs.cells.divide.Tie as tie
 
-abbrev Inv-loop : tie.InvT-loop
-Inv-loop t₀ w i₀ t i = (i ≤ length t₀) × Written (λ j x. x / w) i t₀ t
-
-abbrev μ-loop : tie.MeasureT-loop
-μ-loop t₀ w i₀ t i = length t₀ - i
-
-loop-again : tie.Need-loop-again Inv-loop μ-loop
-loop-again c =
-    let w = c .before .before .loop .inv .1 in
-    (omega (arith, w .size), written-more w (c .before .loop-test .taken) refl)
-
-returns : tie.Need-returns Inv-loop μ-loop
-returns c = written-all (c .before .loop .inv .1) (c .loop-test .left) (length-units _ _) (at-units _ _)
-
 pub divide-spec : {M : Type 1} → statement M
 divide-spec =
     tie.close
-    (tie.spec Inv-loop μ-loop (λ c. (omega arith, written-none)) (λ c. search needs) (λ c. search needs) (λ c. search needs)
-    (λ c. search needs) (λ c. search needs) (λ c. search needs) (λ c. omega (arith, c .before .before .loop .inv .1 .size)) loop-again
-    (λ c. c .before .loop .inv .1 .size) returns)
+    (tie.spec
+    (λ c κs. search needs)
+    (λ c. search needs)
+    (λ c. rw (c .before .before .before .before .if1 .taken) (c .before .before .divide-by .ensures))
+    (λ c κs. search needs)
+    (λ c. search needs)
+    (λ c. rw (c .before .before .before .before .if2 .taken) (c .before .before .divide-by2 .ensures))
+    (λ c κs. search needs)
+    (λ c. search needs)
+    (λ c. rw (c .before .before .before .before .if3 .taken) (c .before .before .divide-by3 .ensures))
+    (λ c κs. search needs)
+    (λ c. search needs)
+    (λ c. search needs))

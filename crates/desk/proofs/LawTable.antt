@@ -42,6 +42,9 @@ refusal Accepted h e = ⊎-elim (λ (z : _≡_ {A = ℕ} 0 1). clash z) (λ (z :
 refusal (RefusedFile k) h e = clash (cc)
 refusal (RefusedLine k line) h e = clash (cc)
 
+pub line-refused : {k : LineFault} {line : ℕ} → RefusedLine k line ≢ Accepted
+line-refused e = clash (cc)
+
 -- where the files are refused no line is looked at
 pub refused-first : (files lines : Outcome) → files ≢ Accepted → files ≡ orElseLines files lines
 refused-first Accepted lines refused = absurd (refused refl)

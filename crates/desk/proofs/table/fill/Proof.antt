@@ -8,12 +8,12 @@ use borrow.Author.Needs.{needs}
 use denote.Ref.{now}
 use Rattle.answers.specs.declared.answer.Outcome.the-variants.{Accepted}
 use Rattle.desk.specs.Table.{rows, total, byLines}
-use Rattle.search.proofs.LawTest.{clash}
 use Rattle.desk.specs.Cells.{width}
 use Rattle.desk.specs.Lent.{lent}
 use Rattle.desk.specs.Account.{lineOutcome}
 use Rattle.desk.proofs.LawAccount.{line-balances}
-use Rattle.desk.proofs.LawTable.{rows-step, total-step, answer-step, answer-refused, refused-cells, accepted-cells, tally-fits}
+use Rattle.desk.proofs.LawTable.{rows-step, total-step, answer-step, answer-refused, line-refused, refused-cells}
+use Rattle.desk.proofs.LawTable.{accepted-cells, tally-fits}
 use Rattle.desk.proofs.table.fill.Statement.{statement}
 use Rattle.desk.proofs.table.fill.Tie as tie
 
@@ -41,11 +41,13 @@ returns c =
     let clear = c .before .before .clear in
     record {
       answer = answer-refused _ _ _ (sym (line-outcome .ensures) ∙ fault .given .1) (loop .inv .4) (loop-test .taken);
-      table = refused-cells _ _ _ _ _ (λ e. clash (cc)) (clear .ensures ∙ ap (λ (m : ℕ). replicate m 0) (loop .inv .1));
+      table = refused-cells _ _ _ _ _ line-refused (clear .ensures ∙ ap (λ (m : ℕ). replicate m 0) (loop .inv .1));
     }
 
 line-outcome-requires : tie.Need-line-outcome-requires Inv-loop μ-loop
-line-outcome-requires c κs = record { book = c .before .before .before .before .before .before .pre .book; there = c .before .before .before .before .before .before .pre .there (c .before .loop .i) (c .loop-test .taken) }
+line-outcome-requires c κs =
+    let able = c .before .before .before .before .before .before .pre in
+    record { book = able .book; there = able .there (c .before .loop .i) (c .loop-test .taken) }
 
 add-requires : tie.Need-add-requires Inv-loop μ-loop
 add-requires c κs =
@@ -53,22 +55,37 @@ add-requires c κs =
     let loop = c .before .before .before .before .before .before .before .before .before .loop in
     let line-outcome = c .before .before .before .before .before .before .before .line-outcome in
     let row = c .before .before .before .before .before .row in
-    tally-fits _ (line-balances (lent (now (entry .args .b)) (now (entry .args .s))) (entry .pre .book)) _ (omega arith) (loop .inv .3) (sym (line-outcome .ensures) ∙ row .given .1)
+    let balances = line-balances (lent (now (entry .args .b)) (now (entry .args .s))) (entry .pre .book) in
+    tally-fits _ balances _ (omega arith) (loop .inv .3) (sym (line-outcome .ensures) ∙ row .given .1)
 
 add-t14 : tie.Need-add-t14 Inv-loop μ-loop
-add-t14 c = omega (arith, c .before .before .before .before .before .before .before .before .loop-test .taken, c .before .before .before .before .before .before .before .before .before .before .before .before .before .before .pre .few)
+add-t14 c =
+    let below = c .before .before .before .before .before .before .before .before .loop-test .taken in
+    let few = c .before .before .before .before .before .before .before .before .before .before .before .before .before .before .pre .few in
+    omega (arith, below, few)
 
 cast-t15 : tie.Need-cast-t15 Inv-loop μ-loop
-cast-t15 c = omega (arith, c .before .before .before .before .before .before .before .before .loop-test .taken, c .before .before .before .before .before .before .before .before .before .before .before .before .before .before .pre .few)
+cast-t15 c =
+    let below = c .before .before .before .before .before .before .before .before .loop-test .taken in
+    let few = c .before .before .before .before .before .before .before .before .before .before .before .before .before .before .pre .few in
+    omega (arith, below, few)
 
 put-row-requires : tie.Need-put-row-requires Inv-loop μ-loop
-put-row-requires c κs = omega (arith, c .before .before .before .before .before .loop-test .taken, c .before .before .before .before .before .before .before .before .before .before .before .pre .fits, c .before .before .before .before .before .before .loop .inv .1)
+put-row-requires c κs =
+    let below = c .before .before .before .before .before .loop-test .taken in
+    let fits = c .before .before .before .before .before .before .before .before .before .before .before .pre .fits in
+    omega (arith, below, fits, c .before .before .before .before .before .before .loop .inv .1)
 
 put-row-requires-2 : tie.Need-put-row-requires-2 Inv-loop μ-loop
-put-row-requires-2 c κs = omega (arith, c .before .before .before .before .before .before .before .pre .fits, c .before .before .loop .inv .1)
+put-row-requires-2 c κs =
+    let fits = c .before .before .before .before .before .before .before .pre .fits in
+    omega (arith, fits, c .before .before .loop .inv .1)
 
 add-i : tie.Need-add-i Inv-loop μ-loop
-add-i c = omega (arith, c .before .before .before .before .before .before .before .before .before .loop-test .taken, c .before .before .before .before .before .before .before .before .before .before .before .before .before .before .before .pre .few)
+add-i c =
+    let below = c .before .before .before .before .before .before .before .before .before .loop-test .taken in
+    let few = c .before .before .before .before .before .before .before .before .before .before .before .before .before .before .before .pre .few in
+    omega (arith, below, few)
 
 loop-less : tie.Need-loop-less Inv-loop μ-loop
 loop-less c = omega (arith, c .before .before .before .before .before .before .before .before .before .loop-test .taken)
@@ -79,7 +96,14 @@ loop-again c =
     let line-outcome = c .before .before .before .before .before .before .before .before .line-outcome in
     let row = c .before .before .before .before .before .before .row in
     let e = sym (line-outcome .ensures) ∙ row .given .1 in
-    (omega (arith, c .before .before .before .before .before .before .before .before .before .loop-test .taken), search needs, rows-step _ _ e _ (loop .inv .2) (c .before .before .before .put-row .ensures), total-step _ _ e (loop .inv .3) (c .add .ensures), answer-step _ _ e (loop .inv .4))
+    let below = c .before .before .before .before .before .before .before .before .before .loop-test .taken in
+    let put = c .before .before .before .put-row .ensures in (
+      omega (arith, below),
+      search needs,
+      rows-step _ _ e _ (loop .inv .2) put,
+      total-step _ _ e (loop .inv .3) (c .add .ensures),
+      answer-step _ _ e (loop .inv .4),
+    )
 
 returns-2 : tie.Need-returns-2 Inv-loop μ-loop
 returns-2 c =

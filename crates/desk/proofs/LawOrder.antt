@@ -9,7 +9,7 @@ use native.Mathlib.Omega.{arith}
 use borrow.Author.Tests.{ltb-true, ltb-false, eqb-true, eqb-false, lt-ltb, le-ltb, eq-eqb, ne-eqb}
 use lib.Dec.{ltb, eqb}
 use Rattle.little.specs.Read.{u16Range}
-use Rattle.search.specs.Cut.{Falls}
+use Rattle.search.specs.InnerCut.{Falls}
 use Rattle.search.specs.Test.{every}
 use Rattle.search.proofs.LawTest.{either-way, and-left, and-right, every-at}
 use Rattle.desk.specs.Key.{keyFields, before, keyLess, keySame}

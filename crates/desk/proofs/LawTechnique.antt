@@ -5,7 +5,7 @@ use mathlib.Core.Path.{_≡_}
 use mathlib.Core.List.{List}
 use native.Mathlib.Omega.{arith}
 use borrow.Author.Tests.{lt-ltb, ltb-true, ltb-false, ne-eqb}
-use Rattle.search.specs.Cut.{Falls}
+use Rattle.search.specs.InnerCut.{Falls}
 use Rattle.desk.specs.Book.{techniqueCode}
 use Rattle.desk.specs.Technique.{techniqueHas}
 use Rattle.desk.specs.Inner.{Listed, codeBelow}

@@ -7,7 +7,7 @@ use lib.Dec.{leb, ltb, eqb}
 use lib.ListN.{length, take, drop}
 use Rattle.amounts.specs.Line.{wholeShare}
 use Rattle.little.specs.Read.{u16Range}
-use Rattle.search.specs.Cut.{Cut}
+use Rattle.search.specs.InnerCut.{Cut}
 use Rattle.search.specs.Test.{every}
 use Rattle.settle.specs.Shown.{at}
 use Rattle.settle.specs.Table.{Good}

@@ -1,7 +1,7 @@
 // The technique search. It is handed the technique block alone.
 ghost use Prim.Native.Nat.{_<_, _≤_, _+_, _*_};
 ghost use lib.ListN.{length};
-ghost use Rattle.search.specs.Cut.{Cut};
+ghost use Rattle.search.specs.InnerCut.{Cut};
 ghost use Rattle.search.specs.First.{Finds};
 ghost use Rattle.little.specs.Read.{Reads};
 ghost use Rattle.headers.specs.Book.{techniqueSize};

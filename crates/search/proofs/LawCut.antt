@@ -5,7 +5,7 @@ use mathlib.Core.Bool.{Bool, true, false}
 use mathlib.Core.Logic.{_⊎_, inl, inr, ⊎-elim}
 use native.Mathlib.Nat.{eq-or-lt-of-le}
 use native.Mathlib.Omega.{arith}
-use Rattle.search.specs.Cut.{Cut, Falls}
+use Rattle.search.specs.InnerCut.{Cut, Falls}
 use Rattle.search.specs.First.{first}
 use Rattle.search.specs.declared.found.Found.the-variants.{At, Nothing}
 use Rattle.search.proofs.LawTest.{either-way}

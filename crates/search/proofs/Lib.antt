@@ -1,3 +1,3 @@
 pub mod LawTest
-pub mod LawCut
 pub mod LawFirst
+pub mod LawCut

@@ -1,3 +1,3 @@
 pub mod Test
-pub mod Cut
 pub mod First
+pub mod InnerCut

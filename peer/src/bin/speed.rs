@@ -34,8 +34,10 @@ fn main() {
 fn cases() -> Vec<(String, Case)> {
     let mut cases = vec![("typical: 5 lines, 30 rows".to_string(), typical_case())];
     for (unit, name) in [(1, "grams"), (2, "kilograms"), (3, "tonnes")] {
-        cases.push((format!("full: 128 lines by energy, 1,024 rows, in {name}"), full_case(unit)));
+        let case = full_case(unit, 0.5);
+        cases.push((format!("full: 128 lines by energy, 1,024 rows, in {name}"), case));
     }
+    cases.push(("full: 128 lines by energy of 250 kW, in tonnes".to_string(), full_case(3, 250.0)));
     cases.push(("hostile book: 1,024 rows of 4,096 techniques".to_string(), hostile_case()));
     let loose = loose_case();
     assert!(every_cell_is_loose(&loose), "no cell is whole in tonnes");
@@ -67,8 +69,9 @@ fn typical_case() -> Case {
     Case::of(&book, &Sheet::new(1, 1, 1, (0..5).map(line).collect()))
 }
 
-/// As much as both files hold, each line by energy in another row.
-fn full_case(unit: u32) -> Case {
+/// As much as both files hold, each line by energy in another row. A divisor of
+/// half a kilowatt has 32 bits, a larger motor's has more.
+fn full_case(unit: u32, kilowatts: f64) -> Case {
     let row = |index: u16| Row {
         place: [3400, 1 + index / 32, 1 + index % 32, 1],
         ..Row::plain(1, 1, 150)
@@ -80,9 +83,9 @@ fn full_case(unit: u32) -> Case {
     };
     let mut random = Random::new(1);
     let line = |index: u16| {
-        let energy = 100.0 + random.below(1_000_000) as f64 / 1000.0;
+        let energy = kilowatts * (200.0 + random.below(2_000_000) as f64 / 1000.0);
         let product = 1 + random.below(1_000_000_000);
-        let line = Line::direct(product).treated(4, 2, [energy, 0.5, 3600.0]);
+        let line = Line::direct(product).treated(4, 2, [energy, kilowatts, 3600.0]);
         Line { place: [3400, 1 + index / 4, 1 + index % 32, 1], reuse: 333, ..line }
     };
     Case::of(&book, &Sheet::new(1, 1, unit, (0..128).map(line).collect()))

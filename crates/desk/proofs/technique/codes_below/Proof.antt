@@ -3,7 +3,7 @@ use Prim.Native.Nat.{_+_, _-_, _/_}
 use native.Mathlib.Omega.{arith}
 use borrow.Author.Tests.{lt-ltb, le-ltb}
 use borrow.Author.Needs.{needs}
-use Rattle.search.specs.Cut.{Cut}
+use Rattle.search.specs.InnerCut.{Cut}
 use Rattle.search.proofs.LawCut.{cut-start, cut-low, cut-high, cut-met}
 use Rattle.desk.specs.Inner.{codeBelow}
 use Rattle.desk.proofs.LawTechnique.{codes-fall}

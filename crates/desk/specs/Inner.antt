@@ -84,6 +84,7 @@ pub record SmallKey (k : Key) : Type 0 where
   pub medium : k .medium < u16Range
   pub pollutant : k .pollutant < u16Range
 
+-- r is the key that is meant, and it can be packed
 pub record ReadsKey (r meant : Key) : Type 0 where
   pub eq : r ≡ meant
   pub small : SmallKey r
@@ -137,6 +138,7 @@ pub record Listed (t : List ℕ) (from count : ℕ) : Type 0 where
 abbrev pub SmallRow : Row → Type 0
 SmallRow row = (row .first < counted) × (row .techniques < counted)
 
+-- r is the row, or what the search answers, that is meant; its list is small
 pub record ReadsRow (r meant : Row) : Type 0 where
   pub eq : r ≡ meant
   pub small : SmallRow r
@@ -151,6 +153,7 @@ pub record FindsRow (r meant : RowSearch) : Type 0 where
 
 -- ---- a line
 
+-- r is the line that is meant, and its key can be packed
 pub record ReadsLine (r meant : Line) : Type 0 where
   pub eq : r ≡ meant
   pub small : SmallKey (r .key)

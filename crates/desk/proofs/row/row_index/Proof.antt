@@ -8,9 +8,6 @@ use Rattle.desk.proofs.row.row_index.Tie as tie
 all-scales-requires : tie.Need-all-scales-requires
 all-scales-requires c κs = c .before .pre .1
 
-index-of-requires-2 : tie.Need-index-of-requires-2
-index-of-requires-2 c κs = (c .before .before .before .before .before .pre .0, c .before .before .before .all-scales .ensures .small)
-
 returns : tie.Need-returns
 unfolding rowIndex
 returns c =
@@ -33,5 +30,5 @@ returns-2 c =
 pub row-index-spec : {M : Type 1} → statement M
 row-index-spec =
     tie.close
-    (tie.spec all-scales-requires (λ c κs. search needs) (λ c. search needs) (λ c. search needs) index-of-requires-2 returns
+    (tie.spec all-scales-requires (λ c κs. search needs) (λ c. search needs) (λ c. search needs) (λ c κs. search needs) returns
     returns-2)

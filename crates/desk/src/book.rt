@@ -127,9 +127,9 @@ fn rows_ok(b: &[u8], runs: &[u16]) -> bool
     let mut at = row_offset(b);
     let mut i = 0;
     while i < rows {
+        let fits = row_fits(b, runs, size, at);
         let key = packed_at(b, at);
-        let rises = (i == 0) | packed_less(last, key);
-        if row_fits(b, runs, size, at) & rises {
+        if fits & ((i == 0) | packed_less(last, key)) {
             last = key;
             at += ROW_SIZE;
             i += 1;

@@ -29,14 +29,19 @@ loop-holds : tie.Need-loop-holds Inv-loop μ-loop
 loop-holds c = (search needs, all-start _, omega (arith, c .row-offset .ensures .eq), λ l. absurd (omega arith))
 
 packed-at-requires : tie.Need-packed-at-requires Inv-loop μ-loop
-packed-at-requires c κs = omega (arith, c .before .before .loop .inv .2, row-in _ (c .before .before .before .before .before .before .before .before .pre .0) (c .before .before .loop .i) (omega (arith, c .before .before .before .before .before .row-count .ensures .eq)))
+packed-at-requires c κs =
+    let l = c .before .before .loop in
+    let rows = c .before .before .before .before .before .row-count .ensures .eq in
+    let inside = row-in _ (c .before .before .before .before .before .before .before .before .pre .0) (l .i) (omega (arith, rows)) in
+    omega (arith, l .inv .2, inside)
 
 row-fits-requires : tie.Need-row-fits-requires Inv-loop μ-loop
 row-fits-requires c κs =
     let z = c .before .before .before .before .before .before .before in
     let l = c .before .loop in
     let size = c .before .before .before .technique-count .ensures .eq in
-    let inside = row-in _ (z .pre .0) (l .i) (omega (arith, c .before .before .before .before .row-count .ensures .eq)) in
+    let rows = c .before .before .before .before .row-count .ensures .eq in
+    let inside = row-in _ (z .pre .0) (l .i) (omega (arith, rows)) in
     (omega (arith, l .inv .2, inside), size, rw size (z .pre .1))
 
 loop-again : tie.Need-loop-again Inv-loop μ-loop
@@ -47,7 +52,8 @@ loop-again c =
     let fits = rw (l .inv .2) at (c .before .before .before .row-fits .ensures) in
     let back : l .i + 1 - 1 ≡ l .i = omega arith in
     let kept = row-by-kept b (techniqueBlock b) (l .i) (l .last) _ (l .inv .3) key in
-    let here : (c .before .before .before .row-fits .result && (eqb (l .i) 0 || c .before .packed-less .result)) ≡ rowOk b (techniqueBlock b) (l .i) = rw (fits, c .before .packed-less .ensures) kept in
+    let less = c .before .packed-less in
+    let here : (c .before .before .before .row-fits .result && (eqb (l .i) 0 || less .result)) ≡ rowOk b (techniqueBlock b) (l .i) = rw (fits, less .ensures) kept in
     (search needs, all-step _ _ (l .inv .1) (sym (c .if1 .taken) ∙ here), omega (arith, l .inv .2), λ m. rw back key)
 
 returns : tie.Need-returns Inv-loop μ-loop
@@ -57,14 +63,17 @@ returns c =
     let key = rw (l .inv .2) at (c .before .before .packed-at .ensures) in
     let fits = rw (l .inv .2) at (c .before .before .before .row-fits .ensures) in
     let kept = row-by-kept b (techniqueBlock b) (l .i) (l .last) _ (l .inv .3) key in
-    let here : (c .before .before .before .row-fits .result && (eqb (l .i) 0 || c .before .packed-less .result)) ≡ rowOk b (techniqueBlock b) (l .i) = rw (fits, c .before .packed-less .ensures) kept in
-    sym (all-stopped _ _ (l .i) (omega (arith, c .before .before .before .before .before .before .before .before .row-count .ensures .eq)) (sym here ∙ c .if1 .left))
+    let less = c .before .packed-less in
+    let here : (c .before .before .before .row-fits .result && (eqb (l .i) 0 || less .result)) ≡ rowOk b (techniqueBlock b) (l .i) = rw (fits, less .ensures) kept in
+    let rows = c .before .before .before .before .before .before .before .before .row-count .ensures .eq in
+    sym (all-stopped _ _ (l .i) (omega (arith, rows)) (sym here ∙ c .if1 .left))
 
 returns-2 : tie.Need-returns-2 Inv-loop μ-loop
 returns-2 c =
     let l = c .before .loop in
     let b = c .before .before .before .before .before .before .before .args .b .now in
-    all-done _ (l .inv .0, l .inv .1) (c .loop-test .left) ∙ ap (λ (n : ℕ). all n (rowOk b (techniqueBlock b))) (c .before .before .before .before .row-count .ensures .eq)
+    let rows = c .before .before .before .before .row-count .ensures .eq in
+    all-done _ (l .inv .0, l .inv .1) (c .loop-test .left) ∙ ap (λ (n : ℕ). all n (rowOk b (techniqueBlock b))) rows
 
 pub rows-ok-spec : {M : Type 1} → statement M
 rows-ok-spec =

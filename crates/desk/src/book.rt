@@ -71,7 +71,7 @@ fn fields_ok(b: &[u8], at: usize) -> bool
         & (places <= 5)
         & ((unit != 1) | (places <= 2))
         & (rule <= 2)
-        & (((rule == 0) & (techniques == 0)) | ((rule != 0) & (techniques != 0)))
+        & ((rule == 0) == (techniques == 0))
 }
 
 // A match, since a table would be laid out anew at each call.

@@ -55,7 +55,11 @@ pub(crate) fn pack(k: Key) -> Packed
 pub(crate) fn packed_less(a: Packed, b: Packed) -> bool
     ensures { λ r. ⌜ r ≡ packedLess a b ⌝ }
 {
-    (a.place < b.place) | ((a.place == b.place) & (a.rest < b.rest))
+    if a.place == b.place {
+        a.rest < b.rest
+    } else {
+        a.place < b.place
+    }
 }
 
 pub(crate) fn packed_same(a: Packed, b: Packed) -> bool

@@ -15,11 +15,11 @@ fn run_before(code: usize, efficiency: usize, next: usize, run: usize) -> usize
     requires { ⌜ run < counted ⌝ }
     ensures { λ r. ⌜ r ≡ runFrom code efficiency next run ⌝ }
 {
-    let lawful = (code != 0) & (efficiency <= WHOLE_SHARE);
-    if lawful & (code < next) {
-        return run + 1;
+    if (code != 0) & (efficiency <= WHOLE_SHARE) {
+        if code < next { run + 1 } else { 1 }
+    } else {
+        0
     }
-    if lawful { 1 } else { 0 }
 }
 
 // From the last technique to the first, so that each is read once: its code is the next one's for the technique before it.

@@ -1,7 +1,7 @@
 -- Before place i the cells are mirrored: above the last row to begin with, at the end all. What is still to be mirrored is the old cell.
 -- (The invariant speaks of any table of which the loop found so much mirrored.)
 use mathlib.Core.List.{List}
-use Prim.Native.Nat.{ℕ, _+_, _-_, _*_, _≤_, _<_}
+use Prim.Native.Nat.{ℕ, _+_, _-_, _*_, _≤_}
 use native.Mathlib.Omega.{arith}
 use lib.ListN.{length}
 use Rattle.settle.specs.Inner.{Written}

@@ -9,7 +9,6 @@ use Rattle.settle.specs.Step.{mirrorCell}
 use Rattle.settle.specs.Table.{limit}
 use Rattle.settle.proofs.LawCells.{written-none}
 use Rattle.settle.proofs.LawMirror.{written-row, written-rows}
-use borrow.Author.Needs.{needs}
 use Rattle.settle.proofs.cells.mirror_above.Statement.{statement}
 use Rattle.settle.proofs.cells.mirror_above.Tie as tie
 

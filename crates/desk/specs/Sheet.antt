@@ -1,4 +1,4 @@
--- "The sheet": when it is not malformed and within its limits.
+-- "The sheet": when it is not malformed and within its limits. Its header is in `headers`.
 use Prim.Native.Nat.{ℕ, _+_, _*_}
 use mathlib.Core.Bool.{Bool, _&&_, not}
 use mathlib.Core.List.{List, [], _∷_}

@@ -1,4 +1,4 @@
-// The coefficient book: its header, its rows and their techniques.
+// The coefficient book: its rows and their techniques.
 ghost use mathlib.Core.Path.{_≡_};
 ghost use mathlib.Core.Bool.{true};
 ghost use Prim.Native.Nat.{_<_, _≤_, _^_};

@@ -1,4 +1,4 @@
-// The sheet: its header, and what may stand in a line.
+// The sheet: what may stand in a line.
 ghost use mathlib.Core.Path.{_≡_};
 ghost use mathlib.Core.Bool.{true};
 ghost use Prim.Native.Nat.{_<_};

@@ -3,8 +3,6 @@ use Prim.Native.Nat.{ℕ, zero, suc, _+_, _*_, _-_, _≤_, _<_}
 use mathlib.Core.Bool.{Bool, true, false, _||_, not}
 use mathlib.Core.Path.{_≡_, sym, _∙_}
 use mathlib.Core.List.{List}
-use mathlib.Core.Logic.{⊎-elim}
-use native.Mathlib.Nat.{le-of-suc-le-suc, eq-or-lt-of-le}
 use native.Mathlib.Omega.{arith}
 use lib.Dec.{leb, eqb}
 use lib.ListN.{length, length-take, length-drop}
@@ -13,6 +11,7 @@ use Rattle.amounts.specs.Line.{wholeShare}
 use Rattle.little.specs.Read.{u32At}
 use Rattle.search.specs.Test.{all}
 use Rattle.search.proofs.LawTest.{either-way, and-left, and-right, all-at, every-at}
+use Rattle.search.proofs.LawCut.{rising}
 use Rattle.headers.specs.House.{fileOk}
 use Rattle.headers.specs.Book.{bookHeader, bookFits, rowCount, techniqueCount, mostTechniques, techniqueSize, bookHeaderOk, techniqueBlock}
 use Rattle.desk.specs.Book.{techniqueCode, techniqueEfficiency, techniqueOk, techniquesOk, rowStart, fieldsAt, fieldsOk, mostCoefficient, coefficientAt}
@@ -20,6 +19,7 @@ use Rattle.desk.specs.Book.{rowOk, rowsOk, bookOk}
 use Rattle.headers.specs.Sheet.{sheetHeader, sheetHeaderSize, sheetFits, sheetHeaderOk, lineSize, lineCount}
 use Rattle.desk.specs.Sheet.{lineStart}
 use Rattle.desk.specs.Inner.{Listed, RowIn, LineIn}
+use Rattle.desk.proofs.LawRun.{ok-rises}
 
 -- a loop over n that stops at a number where the test fails
 pub all-stopped : (p : ℕ → Bool) (n i : ℕ) → i < n → p i ≡ false → all n p ≡ false
@@ -134,18 +134,14 @@ module _ (b : List ℕ) (good : bookOk b ≡ true) where
 
     code-rises : (j : ℕ) → suc j < fieldsAt b (rowStart b i) .techniques → let first = fieldsAt b (rowStart b i) .first in
         techniqueCode (techniqueBlock b) (first + j) < techniqueCode (techniqueBlock b) (first + suc j)
-    unfolding techniqueOk
-    code-rises j m =
-        let back : suc j - 1 ≡ j = omega arith in
-        let above = rw (ne-eqb (suc j) 0 (λ q. omega arith), back) at (every-at _ (each (suc j) m) 2) in
-        ltb-true _ _ above
+    code-rises j m = ltb-true _ _ (ok-rises (techniqueBlock b) (fieldsAt b (rowStart b i) .first) j (each (suc j) m))
 
     codes-rise : (j k : ℕ) → j < k → k < fieldsAt b (rowStart b i) .techniques → let first = fieldsAt b (rowStart b i) .first in
         techniqueCode (techniqueBlock b) (first + j) < techniqueCode (techniqueBlock b) (first + k)
-    codes-rise j zero lt m = absurd (omega arith)
-    codes-rise j (suc k) lt m =
-        ⊎-elim (λ (q : j ≡ k). rw q (code-rises k m)) (λ (below : j < k). omega (arith, codes-rise j k below (omega arith), code-rises k m))
-        (eq-or-lt-of-le (le-of-suc-le-suc lt))
+    codes-rise =
+        let row = fieldsAt b (rowStart b i) in
+        let code : ℕ → ℕ = λ j. techniqueCode (techniqueBlock b) (row .first + j) in
+        rising (λ j k. code j < code k) (λ j k l p q. omega (arith, p, q)) (row .techniques) code-rises
 
     pub row-listed : Listed (techniqueBlock b) (fieldsAt b (rowStart b i) .first) (fieldsAt b (rowStart b i) .techniques)
     unfolding bookOk

@@ -3,8 +3,6 @@ use Prim.Native.Nat.{ℕ, zero, suc, _+_, _*_, _-_, _≤_, _<_}
 use mathlib.Core.Path.{_≡_, refl, sym, ap, _∙_}
 use mathlib.Core.Bool.{Bool, true, false, _&&_, _||_, and-false, or-false}
 use mathlib.Core.List.{List, [], _∷_}
-use mathlib.Core.Logic.{⊎-elim}
-use native.Mathlib.Nat.{le-of-suc-le-suc, eq-or-lt-of-le}
 use native.Mathlib.Omega.{arith}
 use borrow.Author.Tests.{ltb-true, ltb-false, eqb-true, eqb-false, lt-ltb, le-ltb, eq-eqb, ne-eqb}
 use lib.Dec.{ltb, eqb}
@@ -12,6 +10,7 @@ use Rattle.little.specs.Read.{u16Range}
 use Rattle.search.specs.InnerCut.{Falls}
 use Rattle.search.specs.Test.{every}
 use Rattle.search.proofs.LawTest.{either-way, and-left, and-right, every-at}
+use Rattle.search.proofs.LawCut.{rising}
 use Rattle.desk.specs.Key.{keyFields, before, keyLess, keySame}
 use Rattle.headers.specs.Book.{rowCount}
 use Rattle.desk.specs.Book.{rowStart, keyAt, rises, rowOk, bookOk}
@@ -191,11 +190,9 @@ module _ (b : List ℕ) (good : bookOk b ≡ true) where
       rw (ne-eqb (suc j) 0 (λ q. omega arith), n) at e
 
   rows-rise : (i j : ℕ) → i < j → j < rowCount b → keyLess (keyAt b (rowStart b i)) (keyAt b (rowStart b j)) ≡ true
-  rows-rise i zero l m = absurd (omega arith)
-  rows-rise i (suc j) l m =
-      ⊎-elim (λ (q : i ≡ j). rw q (row-rises j m))
-      (λ (lt : i < j). less-trans (keyAt b (rowStart b i)) (keyAt b (rowStart b j)) (keyAt b (rowStart b (suc j))) (rows-rise i j lt (omega arith)) (row-rises j m))
-      (eq-or-lt-of-le (le-of-suc-le-suc l))
+  rows-rise =
+      let key : ℕ → Key = λ i. keyAt b (rowStart b i) in
+      rising (λ i j. keyLess (key i) (key j) ≡ true) (λ i j k. less-trans (key i) (key j) (key k)) (rowCount b) row-rises
 
   -- rows that stand before a key are those before some row
   pub rows-fall : (k : Key) → Falls (rowCount b) (rowBefore b k)

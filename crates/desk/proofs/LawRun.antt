@@ -32,6 +32,10 @@ ok-later t f j =
     let n : suc j - 1 ≡ j = omega arith in
     rw (ne-eqb (suc j) 0 (λ q. omega arith), n)
 
+pub ok-rises : (t : List ℕ) (f j : ℕ) → techniqueOk t f (suc j) ≡ true → ltb (techniqueCode t (f + j)) (techniqueCode t (f + suc j)) ≡ true
+ok-rises t f j h =
+    and-right (lawful t (f + suc j)) (ltb (techniqueCode t (f + j)) (techniqueCode t (f + suc j))) (sym (ok-later t f j) ∙ h)
+
 ok-lawful : (t : List ℕ) (f j : ℕ) → techniqueOk t f j ≡ true → lawful t (f + j) ≡ true
 unfolding techniqueOk every lawful
 ok-lawful t f j h = and-left (lawful t (f + j)) (eqb j 0 || ltb (techniqueCode t (f + (j - 1))) (techniqueCode t (f + j))) h
@@ -44,7 +48,7 @@ ok-good : (t : List ℕ) (f c : ℕ) → all c (techniqueOk t f) ≡ true → Go
 ok-good t f c h =
     record {
       each = λ j l. ok-lawful t f j (all-at (techniqueOk t f) c j h l);
-      rise = λ j l. and-right (lawful t (f + suc j)) (ltb (techniqueCode t (f + j)) (techniqueCode t (f + suc j))) (sym (ok-later t f j) ∙ all-at (techniqueOk t f) c (suc j) h l);
+      rise = λ j l. ok-rises t f j (all-at (techniqueOk t f) c (suc j) h l);
     }
 
 good-ok : (t : List ℕ) (f c : ℕ) → Good t f c → all c (techniqueOk t f) ≡ true

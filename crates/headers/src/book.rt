@@ -31,15 +31,14 @@ pub fn technique_count(b: &[u8]) -> usize
     u16_at(b, 6)
 }
 
-// Where the rows start, and where the technique block does; 0 for a book that has no header.
+// Where the rows start; 0 for a book that has no header.
 pub fn row_offset(b: &[u8]) -> usize
     ensures { λ r. ⌜ Reads r (bookHeader (now (b .entry)) .rowOffset) u32Range ⌝ }
 {
     u32_at(b, 8)
 }
 
-// See row_offset.
-pub fn technique_offset(b: &[u8]) -> usize
+fn technique_offset(b: &[u8]) -> usize
     ensures { λ r. ⌜ Reads r (bookHeader (now (b .entry)) .techniqueOffset) u32Range ⌝ }
 {
     u32_at(b, 12)

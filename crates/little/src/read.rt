@@ -1,15 +1,12 @@
 // Little-endian numbers. A byte past the end counts as 0, so that nothing is asked of a caller.
-ghost use mathlib.Core.Path.{_≡_};
 ghost use Prim.Native.Nat.{_<_};
 ghost use lib.ListN.{length};
-ghost use Rattle.little.specs.Read.{byteRange, u16Range, u32Range, byteAt, u16At, u32At, u64At, Reads};
+ghost use Rattle.little.specs.Read.{byteRange, u16Range, u32Range, byteAt, u16At, u32At, Reads};
 
-// How many numbers a byte, two bytes and four bytes can be.
+// How many numbers a byte can be, and two bytes.
 const BYTE_RANGE: usize = 256;
 
 const U16_RANGE: usize = 65536;
-
-const U32_RANGE: usize = 4294967296;
 
 fn byte(s: &[u8], at: usize) -> usize
     requires { ⌜ at < length (now s) ⌝ }
@@ -53,17 +50,6 @@ pub fn u32_at(s: &[u8], at: usize) -> usize
         } else {
             u16_at(s, at) + U16_RANGE * u16_at(s, at + 2)
         }
-    } else {
-        0
-    }
-}
-
-// The eight bytes from `at` on, the low ones first; of those past the end each counts as 0.
-pub fn u64_at(s: &[u8], at: usize) -> u64
-    ensures { λ r. ⌜ r ≡ u64At (now (s .entry)) at ⌝ }
-{
-    if at < s.len() {
-        (u32_at(s, at) + U32_RANGE * u32_at(s, at + 4)) as u64
     } else {
         0
     }

@@ -1,15 +1,23 @@
--- How halving closes in on where a test stops holding, and what is found there.
-use Prim.Native.Nat.{ℕ, _+_, _≤_, _<_}
+-- What rises, how halving closes in on where a test stops holding, and what is found there.
+use Prim.Native.Nat.{ℕ, zero, suc, _+_, _≤_, _<_}
 use mathlib.Core.Path.{_≡_, sym, _∙_}
 use mathlib.Core.Bool.{Bool, true, false}
 use mathlib.Core.Logic.{_⊎_, inl, inr, ⊎-elim}
-use native.Mathlib.Nat.{eq-or-lt-of-le}
+use native.Mathlib.Nat.{eq-or-lt-of-le, le-of-suc-le-suc}
 use native.Mathlib.Omega.{arith}
 use Rattle.search.specs.InnerCut.{Cut, Falls}
 use Rattle.search.specs.First.{first}
 use Rattle.search.specs.declared.found.Found.the-variants.{At, Nothing}
 use Rattle.search.proofs.LawTest.{either-way}
 use Rattle.search.proofs.LawFirst.{first-start, first-here, first-rest}
+
+-- what holds of each number and the next, and is handed on, holds of each number and every later one
+pub rising : (R : ℕ → ℕ → Type 0) → ((i j k : ℕ) → R i j → R j k → R i k) → (n : ℕ) → ((j : ℕ) → suc j < n → R j (suc j))
+    → (i j : ℕ) → i < j → j < n → R i j
+rising R trans n next i zero l m = absurd (omega arith)
+rising R trans n next i (suc j) l m =
+    ⊎-elim (λ (q : i ≡ j). rw q (next j m)) (λ (lt : i < j). trans i j (suc j) (rising R trans n next i j lt (omega arith)) (next j m))
+    (eq-or-lt-of-le (le-of-suc-le-suc l))
 
 pub cut-start : (n : ℕ) (p : ℕ → Bool) → Cut n p 0 n
 cut-start n p = record { order = omega arith; within = omega arith; below = λ i l. absurd (omega arith); above = λ i l m. absurd (omega arith) }

@@ -6,6 +6,7 @@ ghost use Rattle.little.specs.Read.{u16Range};
 ghost use Rattle.desk.specs.Inner.{Packs, ReadsKey, SmallKey, packedLess, packedSame};
 ghost use Rattle.desk.specs.Key.{allScales, keyFrom};
 use super::inside::u16_in;
+use little::read::U16_RANGE;
 
 pub struct Key {
     pub industry: usize,
@@ -16,8 +17,6 @@ pub struct Key {
     pub medium: usize,
     pub pollutant: usize,
 }
-
-const CODE_RANGE: usize = 65536;
 
 // A key in two numbers, which are compared faster than seven: the four codes of its place, and scale, medium and pollutant.
 pub struct Packed {
@@ -46,9 +45,9 @@ pub(crate) fn pack(k: Key) -> Packed
     ensures { λ r. ⌜ Packs k r ⌝ }
 {
     Packed {
-        place: ((k.industry * CODE_RANGE + k.product) * CODE_RANGE + k.material) * CODE_RANGE
+        place: ((k.industry * U16_RANGE + k.product) * U16_RANGE + k.material) * U16_RANGE
             + k.process,
-        rest: (k.scale * CODE_RANGE + k.medium) * CODE_RANGE + k.pollutant,
+        rest: (k.scale * U16_RANGE + k.medium) * U16_RANGE + k.pollutant,
     }
 }
 

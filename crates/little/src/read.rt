@@ -3,10 +3,12 @@ ghost use Prim.Native.Nat.{_<_};
 ghost use lib.ListN.{length};
 ghost use Rattle.little.specs.Read.{byteRange, u16Range, u32Range, byteAt, u16At, u32At, Reads};
 
-// How many numbers a byte can be, and two bytes.
-const BYTE_RANGE: usize = 256;
+// How many numbers a byte, two bytes and four bytes can be.
+pub const BYTE_RANGE: usize = 256;
 
-const U16_RANGE: usize = 65536;
+pub const U16_RANGE: usize = 65536;
+
+pub const U32_RANGE: usize = 4_294_967_296;
 
 fn byte(s: &[u8], at: usize) -> usize
     requires { ⌜ at < length (now s) ⌝ }

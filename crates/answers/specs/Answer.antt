@@ -1,5 +1,5 @@
 -- "Refusal numbers": the desk's answer by the paper's number and line.
-use Prim.Native.Nat.{ℕ}
+use Prim.Native.Nat.{ℕ, _+_, _*_}
 use Rattle.answers.specs.declared.answer.FileFault.{FileFault}
 use Rattle.answers.specs.declared.answer.FileFault.the-variants.{BookMalformed, SheetMalformed, ResultTooShort}
 use Rattle.answers.specs.declared.answer.LineFault.{LineFault}
@@ -32,3 +32,11 @@ abbrev pub answerLine : Outcome → ℕ
 answerLine Accepted = 0
 answerLine (RefusedFile fault) = 0
 answerLine (RefusedLine fault line) = line
+
+-- a refusal's number is counted in these, and its line stands below them
+abbrev pub numberUnit : ℕ
+numberUnit = 65536
+
+-- the answer as one number; both parts are 0 for accepted
+abbrev pub codeOf : Outcome → ℕ
+codeOf r = answerNumber r * numberUnit + answerLine r

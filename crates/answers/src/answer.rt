@@ -1,6 +1,9 @@
 // What the desk answers: figures, or one refusal.
 ghost use mathlib.Core.Path.{_≡_};
-ghost use Rattle.answers.specs.Answer.{answerLine, answerNumber, fileRule, lineRule};
+ghost use Rattle.answers.specs.Answer.{answerLine, answerNumber, codeOf, fileRule, lineRule};
+
+// In an answer that is one number a refusal's number is counted in these, so that the line, a u16, stands below it.
+pub const NUMBER_UNIT: u64 = 65536;
 
 // What is wrong with a whole file or a whole result, in the order in which it is looked for.
 pub enum FileFault {
@@ -80,5 +83,11 @@ impl Outcome {
             Outcome::RefusedFile(_) => 0,
             Outcome::RefusedLine(_, line) => line,
         }
+    }
+    // The answer as one number: 0 where nothing is refused, else the refusal's number times 65,536, and its line.
+    pub fn code(self) -> u64
+        ensures { λ r. ⌜ r ≡ codeOf self ⌝ }
+    {
+        (self.number() as u64) * NUMBER_UNIT + (self.line() as u64)
     }
 }

@@ -8,14 +8,14 @@ use native.Mathlib.Omega.{arith}
 use lib.ListN.{length}
 use Rattle.search.proofs.LawTest.{clash}
 use Rattle.desk.specs.Lent.{Lent}
-use Rattle.answers.specs.Answer.{answerNumber, answerLine}
+use Rattle.answers.specs.Answer.{answerNumber, answerLine, numberUnit, codeOf}
 use Rattle.headers.specs.Sheet.{mostLines}
 use Rattle.desk.specs.Demands.{OfFile, OfLine}
 use Rattle.answers.specs.declared.answer.Outcome.{Outcome}
 use Rattle.answers.specs.declared.answer.Outcome.the-variants.{Accepted, RefusedFile, RefusedLine}
 use Rattle.desk.proofs.LawDemands.{answer-line-small}
 use Rattle.desk.proofs.LawOnce.{declared-once}
-use Rattle.checkraven_c.specs.Code.{numberUnit, codeOf, answered, Accounts}
+use Rattle.checkraven_c.specs.Code.{answered, Accounts}
 
 told : (o : Outcome) → (o ≡ Accepted) ⊎ (o ≢ Accepted)
 told Accepted = inl refl

@@ -9,7 +9,7 @@ use borrow.Author.Tests.{lt-leb}
 use Rattle.desk.specs.Lent.{Lent}
 use Rattle.report.specs.Report.{reportOf, mostText, writtenOf}
 use Rattle.report.proofs.LawReported.{reported-once, written-all}
-use Rattle.checkraven_c.specs.Code.{numberUnit}
+use Rattle.answers.specs.Answer.{numberUnit}
 use Rattle.checkraven_c.specs.TextCode.{writtenCode, written, Reports}
 
 module _ (f : Lent) (text : List ℕ) (r : ℕ) (text' : List ℕ) (p : Reports f text r text') where

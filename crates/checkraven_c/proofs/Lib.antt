@@ -1,2 +1,3 @@
 pub mod LawCode
 pub mod LawTextCode
+pub mod LawBundleCode

@@ -1,21 +1,13 @@
 -- The desk's answer as one number, and what the C function promises.
-use Prim.Native.Nat.{ℕ, _+_, _*_, min}
+use Prim.Native.Nat.{ℕ, min}
 use mathlib.Core.Path.{_≡_}
 use mathlib.Core.List.{List}
 use lib.ListN.{length}
 use Rattle.desk.specs.Lent.{Lent}
-use Rattle.answers.specs.Answer.{answerNumber, answerLine}
+use Rattle.answers.specs.Answer.{codeOf}
 use Rattle.desk.specs.Table.{answerOf}
 use Rattle.desk.specs.Declare.{Declared}
 use Rattle.answers.specs.declared.answer.Outcome.{Outcome}
-
--- a refusal's number is counted in these, and its line stands below them
-abbrev pub numberUnit : ℕ
-numberUnit = 65536
-
--- both parts are 0 for accepted
-abbrev pub codeOf : Outcome → ℕ
-codeOf r = answerNumber r * numberUnit + answerLine r
 
 -- the desk's answer, for two lent results
 abbrev pub answered : (f : Lent) (exact shown : List ℕ) → Outcome

@@ -1,2 +1,3 @@
 pub mod Code
 pub mod TextCode
+pub mod BundleCode

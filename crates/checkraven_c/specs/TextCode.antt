@@ -4,12 +4,11 @@ use mathlib.Core.Path.{_≡_}
 use mathlib.Core.List.{List}
 use lib.ListN.{length}
 use Rattle.desk.specs.Lent.{Lent}
-use Rattle.answers.specs.Answer.{fileRule}
+use Rattle.answers.specs.Answer.{fileRule, numberUnit}
 use Rattle.answers.specs.declared.answer.FileFault.the-variants.{ResultTooShort}
 use Rattle.report.specs.Report.{reportOf, writtenOf, Reported}
 use Rattle.report.specs.declared.Written.{Written}
 use Rattle.report.specs.declared.Written.the-variants.{Bytes, Short}
-use Rattle.checkraven_c.specs.Code.{numberUnit}
 
 -- the bytes; or the number of the rule for a result that is too short
 unfoldable pub writtenCode : Written → ℕ

@@ -2,12 +2,13 @@
 ghost use Rattle.desk.specs.Lent.{lent};
 ghost use Rattle.checkraven_c.specs.Code.{Accounts};
 ghost use Rattle.checkraven_c.specs.TextCode.{Reports};
+ghost use Rattle.checkraven_c.specs.BundleCode.{AccountsBundle};
+ghost use Rattle.desk.specs.Works.{results};
+use answers::answer::NUMBER_UNIT;
 use desk::declare::declare;
+use desk::works::declare_bundle;
 use report::Written;
 use report::report;
-
-// A refusal's number is counted in these, so that the line, a u16, stands below it.
-const NUMBER: u64 = 65536;
 
 // Rule 3, a result that is too short.
 const TOO_SHORT: u64 = 3;
@@ -23,8 +24,23 @@ pub extern "C" fn checkraven_account(
     ensures { λ r. ⌜ Accounts (lent (now (book .entry)) (now (sheet .entry)))
         (now (exact .entry)) (now (shown .entry)) r (now (exact .exit)) (now (shown .exit)) ⌝ }
 {
-    let outcome = declare(book, sheet, exact, shown);
-    (outcome.number() as u64) * NUMBER + (outcome.line() as u64)
+    declare(book, sheet, exact, shown).code()
+}
+
+// 0 where the bundle is taken; else the refusal's number times 65,536. The results and the outcomes are left as the desk leaves them.
+#[no_mangle]
+pub extern "C" fn checkraven_account_bundle(
+    book: &[u8],
+    bundle: &[u8],
+    exact: &mut [u64],
+    shown: &mut [u64],
+    outcomes: &mut [u64],
+) -> u64
+    ensures { λ r. ⌜ AccountsBundle (now (book .entry)) (now (bundle .entry))
+        (results (now (exact .entry)) (now (shown .entry)) (now (outcomes .entry))) r
+        (results (now (exact .exit)) (now (shown .exit)) (now (outcomes .exit))) ⌝ }
+{
+    declare_bundle(book, bundle, exact, shown, outcomes).code()
 }
 
 // The bytes of the report, below 65,536; or rule 3's number times 65,536, where the text has no room for them. The text is left as the
@@ -35,6 +51,6 @@ pub extern "C" fn checkraven_report(book: &[u8], sheet: &[u8], text: &mut [u8]) 
 {
     match report(book, sheet, text) {
         Written::Bytes(bytes) => bytes as u64,
-        Written::Short => TOO_SHORT * NUMBER,
+        Written::Short => TOO_SHORT * NUMBER_UNIT,
     }
 }

@@ -1,7 +1,7 @@
 -- What one more line does to the table, its sums and the answer; and what is left once no file is refused.
 use Prim.Native.Nat.{ℕ, zero, suc, _+_, _*_, _-_, _≤_, _<_}
 use mathlib.Core.Path.{_≡_, refl}
-use mathlib.Core.Bool.{true}
+use mathlib.Core.Bool.{Bool, true}
 use mathlib.Core.List.{List, [], _∷_, _++_, append-assoc}
 use mathlib.Core.Logic.{⊎-elim, _≢_}
 use denote.Enum.Declared.{tagOf}
@@ -23,7 +23,7 @@ use Rattle.desk.specs.Sheet.{linesOk, sheetOk}
 use Rattle.desk.specs.Cells.{width, tableSize, cellsOf, plus}
 use Rattle.desk.specs.Tally.{add}
 use Rattle.desk.specs.Table.{rowGiven, rows, total, tableOf, byFiles, byLines, orElseLines, cellsAfter}
-use Rattle.desk.specs.Inner.{Fitting, Ready, Fillable, withRow}
+use Rattle.desk.specs.Inner.{Fitting, filesTold, Ready, Fillable, withRow}
 use Rattle.answers.specs.declared.answer.LineFault.{LineFault}
 use Rattle.answers.specs.declared.answer.Outcome.{Outcome}
 use Rattle.answers.specs.declared.answer.Outcome.the-variants.{Accepted, RefusedFile, RefusedLine}
@@ -134,6 +134,11 @@ module _ (l : ℕ → LineOutcome) where
         λ j k. omega (arith, balanced-cell x j k, balanced-cell y j k)
 
 -- ---- what is not refused before the lines
+
+-- where it was known whether the book is right
+pub files-told : (f : Lent) (room : ℕ) {good : Bool} {r : Outcome} → good ≡ bookOk (f .book) → r ≡ filesTold good (f .sheet) room → r ≡ byFiles f room
+unfolding byFiles
+files-told f room e h = rw e at h
 
 pub lines-few : (s : List ℕ) → sheetOk s ≡ true → lineCount s ≤ mostLines
 unfolding sheetOk sheetHeaderOk

@@ -9,4 +9,5 @@ pub mod LawTable
 pub mod LawDeclare
 pub mod LawDemands
 pub mod LawOnce
+pub mod LawWorks
 pub mod LawShutOut

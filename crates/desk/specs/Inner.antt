@@ -1,7 +1,7 @@
 -- What private functions ask and answer, beside what a promise says. Nothing here is needed to read a promise.
 use Prim.Native.Nat.{ℕ, _+_, _*_, _≤_, _<_}
 use mathlib.Core.Path.{_≡_}
-use mathlib.Core.Bool.{Bool, true, _&&_, _||_}
+use mathlib.Core.Bool.{Bool, true, cond, _&&_, _||_}
 use mathlib.Core.List.{List, [], _∷_, _++_}
 use lib.Dec.{leb, ltb, eqb}
 use lib.ListN.{length, take, drop}
@@ -24,7 +24,7 @@ use Rattle.desk.specs.Line.{mostKilograms}
 use Rattle.desk.specs.Lent.{Lent}
 use Rattle.desk.specs.Cells.{width, tableSize, cellsOf}
 use Rattle.desk.specs.Account.{lineOutcome}
-use Rattle.desk.specs.Table.{byLines, cellsAfter}
+use Rattle.desk.specs.Table.{bySheet, byLines, cellsAfter}
 use Rattle.desk.specs.Demands.{tableGrid, Demand3}
 use Rattle.desk.specs.Declare.{BothAfter}
 use Rattle.desk.specs.declared.key.Key.{Key}
@@ -34,8 +34,9 @@ use Rattle.desk.specs.declared.row.Row.{Row}
 use Rattle.desk.specs.declared.row.RowSearch.{RowSearch}
 use Rattle.desk.specs.declared.row.RowSearch.the-variants.{Hit, Miss}
 use Rattle.desk.specs.declared.account.LineOutcome.{LineOutcome}
+use Rattle.answers.specs.declared.answer.FileFault.the-variants.{BookMalformed}
 use Rattle.answers.specs.declared.answer.Outcome.{Outcome}
-use Rattle.answers.specs.declared.answer.Outcome.the-variants.{Accepted}
+use Rattle.answers.specs.declared.answer.Outcome.the-variants.{Accepted, RefusedFile}
 use Rattle.desk.specs.declared.cells.TableRow.{TableRow}
 use Rattle.desk.specs.declared.tally.Tally.{Tally}
 
@@ -197,6 +198,10 @@ withRow i row cells = take (width * i) cells ++ (cellsOf row ++ drop width (drop
 -- every new sum fits 64 bits
 abbrev pub Fitting : Tally → TableRow → Type 0
 Fitting t row = (j : ℕ) → j < width → at (cellsOf (t .sums)) j + at (cellsOf row) j < 18_446_744_073_709_551_616
+
+-- rules 1, 2 and 3 as in `byFiles`, where it is known whether the book is right
+abbrev pub filesTold : (good : Bool) (s : List ℕ) (room : ℕ) → Outcome
+filesTold good s room = cond good (bySheet s room) (RefusedFile BookMalformed)
 
 -- what rules 1, 2 and 3 leave, for results of which the shortest has this room
 pub record Ready (f : Lent) (room : ℕ) : Type 0 where

@@ -11,5 +11,7 @@ pub mod Tally
 pub mod Table
 pub mod Demands
 pub mod Declare
+pub mod Works
 pub mod Inner
 pub mod InnerRun
+pub mod InnerWorks

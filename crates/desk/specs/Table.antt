@@ -44,12 +44,13 @@ tableOf n l = rows n l ++ cellsOf (total n l .sums)
 abbrev pub roomFor : (lines room : ℕ) → Outcome
 roomFor lines room = cond (leb (tableSize lines) room) Accepted (RefusedFile ResultTooShort)
 
+-- what is wrong with the sheet, and then with the room
+abbrev pub bySheet : (s : List ℕ) (room : ℕ) → Outcome
+bySheet s room = cond (sheetOk s) (roomFor (lineCount s) room) (RefusedFile SheetMalformed)
+
 -- what is wrong with the book, the sheet, the room, in this order; for results of which the shortest has this room
 unfoldable pub byFiles : (f : Lent) (room : ℕ) → Outcome
-byFiles f room =
-    cond (bookOk (f .book))
-    (cond (sheetOk (f .sheet)) (roomFor (lineCount (f .sheet)) room) (RefusedFile SheetMalformed))
-    (RefusedFile BookMalformed)
+byFiles f room = cond (bookOk (f .book)) (bySheet (f .sheet) room) (RefusedFile BookMalformed)
 
 -- the first refused line decides; lines count from 1
 abbrev pub orLine : (so-far : Outcome) (line : LineOutcome) (n : ℕ) → Outcome

@@ -3,8 +3,10 @@ ghost use mathlib.Core.Path.{_≡_};
 ghost use Prim.Native.Nat.{min};
 ghost use lib.ListN.{length};
 ghost use Rattle.desk.specs.Lent.{lent};
+ghost use Rattle.desk.specs.Book.{bookOk};
 ghost use Rattle.desk.specs.Declare.{Declared};
 ghost use Rattle.desk.specs.Inner.{Ready, Showable, shownOver, LinesDeclared};
+use super::book::book_ok;
 use super::cells::COLUMNS;
 use super::cells::DISCHARGED;
 use super::table::by_files;
@@ -44,17 +46,32 @@ fn both_tables(book: &[u8], sheet: &[u8], exact: &mut [u64], shown: &mut [u64]) 
     outcome
 }
 
-// Figures, or one refusal, for a book and a sheet of any content and results of any size. Rule 3 is for either result, before any line
-// is looked at. On refusal every cell of both results is zero; on acceptance the cells past the tables keep their values.
-pub fn declare(book: &[u8], sheet: &[u8], exact: &mut [u64], shown: &mut [u64]) -> Outcome
+// What `declare` answers and leaves, for a book of which it is known whether it is right.
+pub(crate) fn declare_told(
+    good: bool,
+    book: &[u8],
+    sheet: &[u8],
+    exact: &mut [u64],
+    shown: &mut [u64],
+) -> Outcome
+    requires { ⌜ good ≡ bookOk (now book) ⌝ }
     ensures { λ r. ⌜ Declared (lent (now (book .entry)) (now (sheet .entry)))
         (now (exact .entry)) (now (shown .entry)) r (now (exact .exit)) (now (shown .exit)) ⌝ }
 {
-    let refusal = by_files(book, sheet, shorter(exact.len(), shown.len()));
+    let refusal = by_files(good, sheet, shorter(exact.len(), shown.len()));
     if let Outcome::Accepted = refusal {
         return both_tables(book, sheet, exact, shown);
     }
     clear(exact);
     clear(shown);
     refusal
+}
+
+// Figures, or one refusal, for a book and a sheet of any content and results of any size. Rule 3 is for either result, before any line
+// is looked at. On refusal every cell of both results is zero; on acceptance the cells past the tables keep their values.
+pub fn declare(book: &[u8], sheet: &[u8], exact: &mut [u64], shown: &mut [u64]) -> Outcome
+    ensures { λ r. ⌜ Declared (lent (now (book .entry)) (now (sheet .entry)))
+        (now (exact .entry)) (now (shown .entry)) r (now (exact .exit)) (now (shown .exit)) ⌝ }
+{
+    declare_told(book_ok(book), book, sheet, exact, shown)
 }

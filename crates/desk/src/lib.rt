@@ -13,3 +13,4 @@ pub mod sheet;
 pub mod table;
 mod tally;
 mod technique;
+pub mod works;

@@ -3,8 +3,8 @@ ghost use mathlib.Core.Path.{_≡_};
 ghost use Prim.Native.Nat.{_<_};
 ghost use Rattle.desk.specs.Lent.{lent};
 ghost use Rattle.desk.specs.Account.{lineOutcome};
-ghost use Rattle.desk.specs.Table.{roomFor, byFiles, ExactTable};
-ghost use Rattle.desk.specs.Inner.{counted, Fillable, Filled};
+ghost use Rattle.desk.specs.Table.{roomFor, ExactTable};
+ghost use Rattle.desk.specs.Inner.{counted, filesTold, Fillable, Filled};
 use super::account::LineOutcome;
 use super::account::line_outcome;
 use super::book::book_ok;
@@ -33,11 +33,11 @@ fn room_for(lines: usize, room: usize) -> Outcome
     }
 }
 
-// Rules 1, 2 and 3, for results of which the shortest has this room.
-pub(crate) fn by_files(b: &[u8], s: &[u8], room: usize) -> Outcome
-    ensures { λ r. ⌜ r ≡ byFiles (lent (now (b .entry)) (now (s .entry))) room ⌝ }
+// Rules 1, 2 and 3, for a book of which it is known whether it is right, and results of which the shortest has this room.
+pub(crate) fn by_files(good: bool, s: &[u8], room: usize) -> Outcome
+    ensures { λ r. ⌜ r ≡ filesTold good (now (s .entry)) room ⌝ }
 {
-    if book_ok(b) {
+    if good {
         if sheet_ok(s) {
             room_for(line_count(s), room)
         } else {
@@ -77,7 +77,7 @@ pub(crate) fn fill(b: &[u8], s: &[u8], lines: usize, exact: &mut [u64]) -> Outco
 pub fn exact_table(book: &[u8], sheet: &[u8], exact: &mut [u64]) -> Outcome
     ensures { λ r. ⌜ ExactTable (lent (now (book .entry)) (now (sheet .entry))) (now (exact .entry)) r (now (exact .exit)) ⌝ }
 {
-    let refusal = by_files(book, sheet, exact.len());
+    let refusal = by_files(book_ok(book), sheet, exact.len());
     if let Outcome::Accepted = refusal {
         return fill(book, sheet, line_count(sheet), exact);
     }

@@ -1,0 +1,18 @@
+-- The answer to a bundle as one number, and what the C function for it promises.
+use Prim.Native.Nat.{ℕ}
+use mathlib.Core.Path.{_≡_}
+use mathlib.Core.List.{List}
+use lib.ListN.{length}
+use Rattle.answers.specs.Bundle.{bundleCode}
+use Rattle.answers.specs.declared.bundle.BundleOutcome.{BundleOutcome}
+use Rattle.bundle.specs.Whole.{bundleOutcome}
+use Rattle.desk.specs.Works.{Results, BundleDeclared}
+
+-- the desk's answer to the whole, for what is lent
+abbrev pub answeredBundle : (bundle : List ℕ) (before : Results) → BundleOutcome
+answeredBundle bundle before = bundleOutcome bundle (length (before .exact)) (length (before .shown)) (length (before .outcomes))
+
+-- the answer r is the code of the desk's, and what is lent holds what the desk leaves in it
+pub record AccountsBundle (book bundle : List ℕ) (before : Results) (r : ℕ) (after : Results) : Type 0 where
+  pub answer : r ≡ bundleCode (answeredBundle bundle before)
+  pub declared : BundleDeclared book bundle before (answeredBundle bundle before) after

@@ -1,16 +1,18 @@
--- The sheet before one: the first sheet has none. And what room there is where a bundle is taken.
+-- What a right bundle says of its sheets, which refusal comes first, and what room there is where a bundle is taken.
 use Prim.Native.Nat.{ℕ, zero, suc, _+_, _*_, _-_, _≤_, _<_}
 use mathlib.Core.Path.{_≡_, refl}
-use mathlib.Core.Bool.{Bool, true}
+use mathlib.Core.Bool.{Bool, true, false}
 use mathlib.Core.List.{List, [], _∷_}
+use mathlib.Core.Logic.{⊎-elim}
 use native.Mathlib.Omega.{arith}
-use native.Mathlib.Nat.{suc-mul, mul-le-mul-right}
+use native.Mathlib.Nat.{suc-mul, mul-le-mul-right, not-suc-le-zero, le-of-suc-le-suc, eq-or-lt-of-le}
 use lib.Dec.{leb}
 use borrow.Author.Tests.{leb-true}
 use Rattle.search.specs.Test.{every}
-use Rattle.search.proofs.LawTest.{either-way, clash, every-at}
+use Rattle.search.proofs.LawTest.{either-way, clash, and-right, all-at, every-at}
 use Rattle.answers.specs.declared.bundle.BundleOutcome.the-variants.{Taken, BundleMalformed, ResultTooShort}
-use Rattle.bundle.specs.Bundle.{sheetCount, cellsPerSheet, sheetOffset, sheetEnd, afterTheOneBefore, bundleOk}
+use Rattle.bundle.specs.Bundle.{bundleHeader, sheetCount, cellsPerSheet, entriesEnd, sheetOffset, sheetEnd}
+use Rattle.bundle.specs.Bundle.{bundleHeaderOk, afterTheOneBefore, entryOk, entriesOk, bundleOk}
 use Rattle.bundle.specs.Whole.{cellsOwned, roomy, bundleOutcome}
 
 pub first-sheet : (b : List ℕ) (i : ℕ) → i ≡ 0 → true ≡ afterTheOneBefore b i
@@ -59,3 +61,44 @@ taken-room b exact shown outcomes h =
 -- each sheet's run lies in the cells that the sheets own together
 pub run-inside : (b : List ℕ) (i : ℕ) → i < sheetCount b → i * cellsPerSheet b + cellsPerSheet b ≤ cellsOwned b
 run-inside b i h = omega (arith, suc-mul i (cellsPerSheet b), mul-le-mul-right (cellsPerSheet b) h)
+
+-- ---- the order of the refusals
+
+-- a malformed bundle is 16, whatever room there is
+pub malformed-first : (b : List ℕ) (exact shown outcomes : ℕ) → bundleOk b ≡ false → bundleOutcome b exact shown outcomes ≡ BundleMalformed
+unfolding bundleOutcome
+malformed-first b exact shown outcomes h = rw h refl
+
+-- and a right one without room is 3
+pub short-then : (b : List ℕ) (exact shown outcomes : ℕ) → bundleOk b ≡ true → roomy b exact shown outcomes ≡ false
+    → bundleOutcome b exact shown outcomes ≡ ResultTooShort
+unfolding bundleOutcome
+short-then b exact shown outcomes h g = rw (h, g) refl
+
+-- ---- where the sheets of a right bundle lie
+
+module _ (b : List ℕ) (right : bundleOk b ≡ true) where
+  entry-right : (i : ℕ) → i < sheetCount b → entryOk b i ≡ true
+  unfolding bundleOk
+  entry-right i h = all-at (entryOk b) (sheetCount b) i (and-right (bundleHeaderOk b) (entriesOk b) right) h
+
+  -- none begins before the end of the entries, and none ends past the length
+  pub sheet-after-entries : (i : ℕ) → i < sheetCount b → entriesEnd b ≤ sheetOffset b i
+  unfolding entryOk
+  sheet-after-entries i h = leb-true _ _ (every-at _ (entry-right i h) 0)
+
+  pub sheet-inside : (i : ℕ) → i < sheetCount b → sheetEnd b i ≤ bundleHeader b .length
+  unfolding entryOk
+  sheet-inside i h = leb-true _ _ (every-at _ (entry-right i h) 2)
+
+  next-sheet : (i : ℕ) → suc i < sheetCount b → sheetEnd b i ≤ sheetOffset b (suc i)
+  unfolding entryOk afterTheOneBefore
+  next-sheet i h = leb-true _ _ (every-at _ (entry-right (suc i) h) 1)
+
+  -- no two sheets overlap
+  pub sheets-apart : (i j : ℕ) → i < j → j < sheetCount b → sheetEnd b i ≤ sheetOffset b j
+  sheets-apart i zero h k = absurd (not-suc-le-zero h)
+  sheets-apart i (suc j) h k =
+      ⊎-elim (λ (q : i ≡ j). rw q (next-sheet j k))
+      (λ (l : i < j). omega (arith, sheets-apart i j l (omega arith), next-sheet j k))
+      (eq-or-lt-of-le (le-of-suc-le-suc h))

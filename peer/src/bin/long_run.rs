@@ -1,7 +1,7 @@
 //! Compares both desks on cases of any sort for a while:
 //! `long_run [SECONDS] [SEED]`, by default one minute with seed 1.
 
-use peer::compare::{compare, keep};
+use peer::compare::{keep, AnyCase};
 use peer::make::{any_case, Random};
 use std::process::ExitCode;
 use std::time::{Duration, Instant};
@@ -30,7 +30,7 @@ fn run(length: Duration, seed: u64) -> (u64, u64) {
     while begin.elapsed() < length {
         let case = any_case(&mut random);
         cases += 1;
-        if let Err(what) = compare(&case) {
+        if let Err(what) = case.compare() {
             disagreements += 1;
             println!("{what}: {}", keep("long-run", &case, &what).display());
         }

@@ -1,7 +1,7 @@
 //! Replays one case: `replay FOLDER` with book.bin and sheet.bin, and
 //! lengths.txt where the lengths of the results matter.
 
-use peer::compare::{compare, run_plain, run_proved, Case, Filled};
+use peer::compare::{run_plain, run_proved, AnyCase, Case, Filled};
 use peer::print::whole_output;
 use std::path::Path;
 use std::process::ExitCode;
@@ -24,7 +24,7 @@ fn main() -> ExitCode {
         Ok(filled) => print("proved desk", &case, &filled),
         Err(what) => println!("proved desk: {what}"),
     }
-    match compare(&case) {
+    match case.compare() {
         Ok(outcome) => {
             println!("both agree: {outcome}");
             ExitCode::SUCCESS

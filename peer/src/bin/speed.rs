@@ -4,7 +4,7 @@
 //! Usage: `speed [ROUNDS [WORD]]`, by default 200 rounds a case, and only the
 //! cases that have the word in their names.
 
-use peer::compare::{compare, earlier_cells, run_plain, Case};
+use peer::compare::{earlier_cells, run_plain, AnyCase, Case};
 use peer::make::{Book, Line, Random, Row, Sheet, Technique};
 use peer::plain;
 use std::hint::black_box;
@@ -23,7 +23,7 @@ fn main() {
     println!("|---|---|---|---|");
     let wanted = std::env::args().nth(2).unwrap_or_default();
     for (name, case) in cases().into_iter().filter(|(name, _)| name.contains(&wanted)) {
-        let outcome = compare(&case).expect("both desks agree on the case");
+        let outcome = case.compare().expect("both desks agree on the case");
         assert!(outcome.is_accepted(), "{name} is {outcome}");
         let (proved, plain) = measure(&case, rounds);
         let ratio = proved.median / plain.median;

@@ -5,7 +5,7 @@ use peer::compare::{limited, thinned, BundleCase, Tally};
 use peer::make::damage::own_length;
 use peer::make::generate::Size;
 use peer::make::works::{damage_bundle, mixed_works};
-use peer::make::{any_bundle, edges, Book, Bundle, Line, Random, Row, Sheet, Technique};
+use peer::make::{edges, Book, Bundle, Line, Random, Row, Sheet, Technique};
 
 /// A book of two rows, by hours and by energy.
 fn book() -> Vec<u8> {
@@ -272,14 +272,5 @@ fn many_damages_to_bundles() {
         let mut case = mixed_works(&mut random, most);
         damage_bundle(&mut random, &mut case);
         tally.agree(&case);
-    }
-}
-
-#[test]
-fn bundles_of_any_sort() {
-    let mut tally = Tally::new("bundles_of_any_sort");
-    let mut random = Random::new(62);
-    for _ in 0..limited(10_000) {
-        tally.agree(&any_bundle(&mut random));
     }
 }

@@ -5,7 +5,7 @@ use peer::compare::{limited, thinned, BundleCase, Tally};
 use peer::make::damage::own_length;
 use peer::make::generate::Size;
 use peer::make::works::{damage_bundle, mixed_works};
-use peer::make::{edges, Book, Bundle, Line, Random, Row, Sheet, Technique};
+use peer::make::{edges, every_two, Book, Bundle, Line, Random, Row, Sheet, Technique};
 
 /// A book of two rows, by hours and by energy.
 fn book() -> Vec<u8> {
@@ -48,17 +48,16 @@ fn the_small_bundle_is_taken() {
 #[test]
 fn every_other_value_of_every_byte_before_the_sheets() {
     let mut tally = Tally::new("every_other_value_of_every_byte_before_the_sheets");
-    let places = 0..ENTRIES_END as usize;
-    let changes = places.flat_map(|at| (1..=255u8).map(move |turn| (at, turn))).collect();
-    change_bytes(&mut tally, changes);
+    let places: Vec<usize> = (0..ENTRIES_END as usize).collect();
+    let turns: Vec<u8> = (1..=255).collect();
+    change_bytes(&mut tally, every_two(&places, &turns));
 }
 
 #[test]
 fn other_values_of_every_byte_of_the_sheets() {
     let mut tally = Tally::new("other_values_of_every_byte_of_the_sheets");
-    let places = ENTRIES_END as usize..case(&small_bundle()).bundle.len();
-    let changes = places.flat_map(|at| [1, 2, 16, 128, 255].map(|turn| (at, turn))).collect();
-    change_bytes(&mut tally, changes);
+    let places: Vec<usize> = (ENTRIES_END as usize..small_bundle().bytes().len()).collect();
+    change_bytes(&mut tally, every_two(&places, &[1, 2, 16, 128, 255]));
 }
 
 /// The lent memory stays as it was for the bundle before its change.
@@ -100,16 +99,20 @@ fn longer_bundles() {
     }
 }
 
-/// Shorter than its header, and headers alone with any number of sheets.
 #[test]
-fn headers_alone() {
-    let mut tally = Tally::new("headers_alone");
+fn bundles_shorter_than_their_header() {
+    let mut tally = Tally::new("bundles_shorter_than_their_header");
     for length in 0..12 {
         let mut case = BundleCase::with_room(book(), vec![0; length]).with_lengths(9, 9, 9);
         tally.expect_refused(&case, MALFORMED, 0);
         own_length(&mut case.bundle);
         tally.expect_refused(&case, MALFORMED, 0);
     }
+}
+
+#[test]
+fn headers_without_entries() {
+    let mut tally = Tally::new("headers_without_entries");
     for count in 0..=17 {
         let mut bundle = Bundle::of(4, &[]);
         bundle.count = count;
@@ -181,31 +184,50 @@ fn entries_at_their_limits_are_taken() {
     }
 }
 
-/// A sheet of no bytes obeys the rules of all sheets and is refused with 2.
 #[test]
-fn sheets_of_no_bytes() {
-    let mut tally = Tally::new("sheets_of_no_bytes");
-    let [first, second, third] = small_sheets();
-    let length = Bundle::of(12, &[first.clone(), second.clone(), third.clone()]).length;
+fn sheets_of_no_bytes_are_refused_alone() {
+    let mut tally = Tally::new("sheets_of_no_bytes_are_refused_alone");
     for place in 0..3 {
-        let mut sheets = [first.clone(), second.clone(), third.clone()];
+        let mut sheets = small_sheets();
         sheets[place] = vec![];
         let mut expected = [(0, 0); 3];
         expected[place] = (2, 0);
         tally.expect_sheets(&case(&Bundle::of(12, &sheets)), &expected);
     }
     tally.expect_sheets(&case(&Bundle::of(12, &vec![vec![]; 16])), &[(2, 0); 16]);
-    let place_of_first = |offset| {
-        let mut bundle = Bundle::of(12, &[vec![], second.clone(), third.clone()]);
-        bundle.entries[0][0] = offset;
-        case(&bundle)
-    };
-    for offset in [0, ENTRIES_END - 1, ENTRIES_END + 1, length, u32::MAX] {
-        tally.expect_refused(&place_of_first(offset), MALFORMED, 0);
+}
+
+/// They obey the rules of all sheets: in the gaps of the small bundle, at their
+/// ends, and next to these.
+#[test]
+fn places_of_a_sheet_of_no_bytes() {
+    let mut tally = Tally::new("places_of_a_sheet_of_no_bytes");
+    let bundle = Bundle::with_gaps(12, &[vec![0; 20], vec![], vec![0; 20]], &[2, 3, 4, 5]);
+    let [_, [begin, _], [end, _]] = bundle.entries[..] else { panic!("there are three sheets") };
+    for offset in 0..=bundle.length + 1 {
+        let mut bundle = bundle.clone();
+        bundle.entries[1][0] = offset;
+        match (begin - 3..=end).contains(&offset) {
+            true => tally.expect_accepted(&case(&bundle)),
+            false => tally.expect_refused(&case(&bundle), MALFORMED, 0),
+        }
     }
-    let mut past_the_end = Bundle::of(12, &[first, second, vec![]]);
-    past_the_end.entries[2][0] = past_the_end.length + 1;
-    tally.expect_refused(&case(&past_the_end), MALFORMED, 0);
+}
+
+/// The first may stand at the end of the entries, the last at the end of all.
+#[test]
+fn outermost_places_of_sheets_of_no_bytes() {
+    let mut tally = Tally::new("outermost_places_of_sheets_of_no_bytes");
+    let bundle = Bundle::with_gaps(12, &vec![vec![]; 3], &[1, 1, 1, 1]);
+    let (first, last) = (ENTRIES_END, bundle.length);
+    for (begin, end) in every_two(&[0, first - 1, first], &[last, last + 1, u32::MAX]) {
+        let mut bundle = bundle.clone();
+        (bundle.entries[0][0], bundle.entries[2][0]) = (begin, end);
+        match (begin, end) == (first, last) {
+            true => tally.expect_sheets(&case(&bundle), &[(2, 0); 3]),
+            false => tally.expect_refused(&case(&bundle), MALFORMED, 0),
+        }
+    }
 }
 
 /// Each sheet ends at 2^32 or up to its offset or its length further: by a
@@ -214,15 +236,16 @@ fn sheets_of_no_bytes() {
 fn ends_that_wrap_in_32_bits() {
     let mut tally = Tally::new("ends_that_wrap_in_32_bits");
     let small = small_bundle();
-    for sheet in 0..3 {
+    let wrapping = |sheet: usize| {
         let [offset, length] = small.entries[sheet];
-        let long = (0..offset).map(|end| [offset, end.wrapping_sub(offset)]);
-        let far = (0..length).map(|end| [end.wrapping_sub(length), length]);
-        for entry in thinned(long.chain(far).collect()) {
-            let mut bundle = small.clone();
-            bundle.entries[sheet] = entry;
-            tally.expect_refused(&case(&bundle), MALFORMED, 0);
-        }
+        let long = (0..offset).map(move |end| [offset, end.wrapping_sub(offset)]);
+        let far = (0..length).map(move |end| [end.wrapping_sub(length), length]);
+        long.chain(far).map(move |entry| (sheet, entry))
+    };
+    for (sheet, entry) in thinned((0..3).flat_map(wrapping).collect()) {
+        let mut bundle = small.clone();
+        bundle.entries[sheet] = entry;
+        tally.expect_refused(&case(&bundle), MALFORMED, 0);
     }
 }
 
@@ -235,13 +258,11 @@ fn pairs_of_hostile_entries() {
     let near = around.chain([12, ENTRIES_END, small.length]).flat_map(|at| [at - 1, at, at + 1]);
     let far = [0, 1, 1 << 16, 1 << 31, u32::MAX - 17, u32::MAX];
     let numbers: Vec<u32> = near.chain(far).collect();
-    for sheet in 0..3 {
-        let pairs = numbers.iter().flat_map(|&a| numbers.iter().map(move |&b| [a, b])).collect();
-        for entry in thinned::<[u32; 2]>(pairs) {
-            let mut bundle = small.clone();
-            bundle.entries[sheet] = entry;
-            tally.agree(&case(&bundle));
-        }
+    let entries = every_two(&numbers, &numbers);
+    for (sheet, (offset, length)) in thinned(every_two(&[0, 1, 2], &entries)) {
+        let mut bundle = small.clone();
+        bundle.entries[sheet] = [offset, length];
+        tally.agree(&case(&bundle));
     }
 }
 
@@ -253,13 +274,13 @@ fn every_field_at_edges() {
     let powers = (0..32).map(|power| 1u64 << power);
     let values: Vec<u64> =
         edges::NUMBERS.into_iter().chain(near_the_end).chain(0..45).chain(powers).collect();
+    let header = [(0, 4), (4, 2), (6, 2), (8, 4)].into_iter();
     let entries = (12..ENTRIES_END as usize).step_by(4).map(|at| (at, 4));
-    for (at, width) in [(0, 4), (4, 2), (6, 2), (8, 4)].into_iter().chain(entries) {
-        for value in thinned(values.clone()) {
-            let mut case = whole.clone();
-            case.bundle[at..at + width].copy_from_slice(&value.to_le_bytes()[..width]);
-            tally.agree(&case);
-        }
+    let fields: Vec<(usize, usize)> = header.chain(entries).collect();
+    for ((at, width), value) in thinned(every_two(&fields, &values)) {
+        let mut case = whole.clone();
+        case.bundle[at..at + width].copy_from_slice(&value.to_le_bytes()[..width]);
+        tally.agree(&case);
     }
 }
 

@@ -4,7 +4,7 @@
 use peer::compare::{limited, thinned, BundleCase, Tally};
 use peer::make::generate::Size;
 use peer::make::works::{mixed_works, sound_works};
-use peer::make::{Book, Bundle, Line, Random, Row, Sheet, Technique};
+use peer::make::{every_two, Book, Bundle, Line, Random, Row, Sheet, Technique};
 
 /// One row by hours, COD in water.
 fn book() -> Book {
@@ -126,25 +126,21 @@ fn refused_sheets() -> Vec<((u64, u64), Vec<u8>)> {
 #[test]
 fn every_refusal_beside_accepted_sheets() {
     let mut tally = Tally::new("every_refusal_beside_accepted_sheets");
-    for (refusal, refused) in refused_sheets() {
-        for place in 0..5 {
-            let mut sheets = sheets(&[2, 1, 2, 0, 2]);
-            sheets[place] = refused.clone();
-            let mut expected = [ACCEPTED; 5];
-            expected[place] = refusal;
-            tally.expect_sheets(&case(12, &sheets), &expected);
-        }
+    for ((refusal, refused), place) in every_two(&refused_sheets(), &[0, 1, 2, 3, 4]) {
+        let mut sheets = sheets(&[2, 1, 2, 0, 2]);
+        sheets[place] = refused;
+        let mut expected = [ACCEPTED; 5];
+        expected[place] = refusal;
+        tally.expect_sheets(&case(12, &sheets), &expected);
     }
 }
 
 #[test]
 fn every_two_refusals_side_by_side() {
     let mut tally = Tally::new("every_two_refusals_side_by_side");
-    for (one, first) in refused_sheets() {
-        for (other, second) in refused_sheets() {
-            let sheets = [sheet(2, 0), first.clone(), second, sheet(2, 3), first.clone()];
-            tally.expect_sheets(&case(12, &sheets), &[ACCEPTED, one, other, ACCEPTED, one]);
-        }
+    for ((one, first), (other, second)) in every_two(&refused_sheets(), &refused_sheets()) {
+        let sheets = [sheet(2, 0), first.clone(), second, sheet(2, 3), first];
+        tally.expect_sheets(&case(12, &sheets), &[ACCEPTED, one, other, ACCEPTED, one]);
     }
 }
 
@@ -177,18 +173,14 @@ fn cells_per_sheet_around_the_need() {
 #[test]
 fn cells_per_sheet_far_over_the_room() {
     let mut tally = Tally::new("cells_per_sheet_far_over_the_room");
-    for sheets in [1, 2, 3, 5, 15, 16] {
-        for power in 14..32 {
-            for cells in [(1u32 << power) - 1, 1 << power, (1 << power) + 1] {
-                let case = case(cells, &vec![sheet(0, 0); sheets]).with_lengths(8256, 8256, 16);
-                match sheets * cells as usize <= 8256 {
-                    true => tally.expect_accepted(&case),
-                    false => tally.expect_refused(&case, 3, 0),
-                }
-            }
+    let around = |power: u32| [(1 << power) - 1, 1 << power, (1 << power) + 1];
+    let cells: Vec<u32> = (5..32).flat_map(around).chain([u32::MAX]).collect();
+    for (number, cells) in every_two(&[1, 2, 3, 5, 15, 16], &cells) {
+        let case = case(cells, &vec![sheet(0, 0); number]).with_lengths(8256, 8256, 16);
+        match number as u64 * cells as u64 <= 8256 {
+            true => tally.expect_sheets(&case, &vec![ACCEPTED; number]),
+            false => tally.expect_refused(&case, 3, 0),
         }
-        let most = case(u32::MAX, &vec![sheet(0, 0); sheets]);
-        tally.expect_refused(&most, 3, 0);
     }
 }
 
@@ -196,18 +188,20 @@ fn cells_per_sheet_far_over_the_room() {
 fn results_and_outcomes_around_the_need() {
     let mut tally = Tally::new("results_and_outcomes_around_the_need");
     for (number, cells) in [(1, 12), (2, 8), (5, 9), (16, 13)] {
-        let bundle = case(cells, &sheets(&vec![1; number]));
-        let need = number * cells as usize;
-        let lengths = [0, 1, need - 1, need, need + 1, need + 40];
-        let outcomes = [0, number - 1, number, number + 1, number + 20];
-        for (exact, shown) in lengths.iter().flat_map(|&a| lengths.map(|b| (a, b))) {
-            for outcomes in outcomes {
-                let case = bundle.clone().with_lengths(exact, shown, outcomes);
-                match exact >= need && shown >= need && outcomes >= number {
-                    true => tally.expect_sheets(&case, &vec![ACCEPTED; number]),
-                    false => tally.expect_refused(&case, 3, 0),
-                }
-            }
+        lend_around_the_need(&mut tally, number, cells);
+    }
+}
+
+fn lend_around_the_need(tally: &mut Tally, number: usize, cells: usize) {
+    let bundle = case(cells as u32, &sheets(&vec![1; number]));
+    let need = number * cells;
+    let lengths = [0, 1, need - 1, need, need + 1, need + 40];
+    let outcomes = [0, number - 1, number, number + 1, number + 20];
+    for ((exact, shown), outcomes) in every_two(&every_two(&lengths, &lengths), &outcomes) {
+        let case = bundle.clone().with_lengths(exact, shown, outcomes);
+        match exact >= need && shown >= need && outcomes >= number {
+            true => tally.expect_sheets(&case, &vec![ACCEPTED; number]),
+            false => tally.expect_refused(&case, 3, 0),
         }
     }
 }
@@ -228,12 +222,11 @@ fn malformed_comes_before_room() {
     let mut tally = Tally::new("malformed_comes_before_room");
     let mut malformed = Bundle::of(12, &sheets(&[2, 1]));
     malformed.zero = 1;
-    for book in [book().bytes(), bad_book(), vec![]] {
-        for (exact, shown, outcomes) in [(0, 0, 0), (23, 24, 2), (24, 23, 2), (24, 24, 1)] {
-            let case = BundleCase::of(&book, &malformed).with_lengths(exact, shown, outcomes);
-            tally.expect_refused(&case, 16, 0);
-        }
-        tally.expect_refused(&BundleCase::of(&book, &malformed), 16, 0);
+    let books = [book().bytes(), bad_book(), vec![]];
+    let lent = [(0, 0, 0), (23, 24, 2), (24, 23, 2), (24, 24, 1), (99, 99, 9)];
+    for (book, (exact, shown, outcomes)) in every_two(&books, &lent) {
+        let case = BundleCase::of(&book, &malformed).with_lengths(exact, shown, outcomes);
+        tally.expect_refused(&case, 16, 0);
     }
 }
 
@@ -241,11 +234,10 @@ fn malformed_comes_before_room() {
 fn room_comes_before_the_book() {
     let mut tally = Tally::new("room_comes_before_the_book");
     let bundle = Bundle::of(12, &sheets(&[2, 1]));
-    for book in [bad_book(), vec![]] {
-        for (exact, shown, outcomes) in [(0, 0, 0), (23, 99, 2), (99, 23, 2), (24, 24, 1)] {
-            let case = BundleCase::of(&book, &bundle).with_lengths(exact, shown, outcomes);
-            tally.expect_refused(&case, 3, 0);
-        }
+    let lent = [(0, 0, 0), (23, 99, 2), (99, 23, 2), (24, 24, 1)];
+    for (book, (exact, shown, outcomes)) in every_two(&[bad_book(), vec![]], &lent) {
+        let case = BundleCase::of(&book, &bundle).with_lengths(exact, shown, outcomes);
+        tally.expect_refused(&case, 3, 0);
     }
 }
 
@@ -269,16 +261,13 @@ fn a_bad_book_is_refused_for_each_sheet() {
 #[test]
 fn bundles_of_no_sheets() {
     let mut tally = Tally::new("bundles_of_no_sheets");
-    for book in [book().bytes(), bad_book(), vec![]] {
-        for cells in [0, 1, 12, 1 << 28, u32::MAX] {
-            for gap in [0, 1, 8, 100] {
-                let bundle = Bundle::with_gaps(cells, &[], &[gap]);
-                for lent in [(0, 0, 0), (1, 0, 0), (0, 7, 3), (40, 40, 16)] {
-                    let case = BundleCase::of(&book, &bundle).with_lengths(lent.0, lent.1, lent.2);
-                    tally.expect_sheets(&case, &[]);
-                }
-            }
-        }
+    let headers = every_two(&[0, 1, 12, 1 << 28, u32::MAX], &[0, 1, 8, 100]);
+    let books = [book().bytes(), bad_book(), vec![]];
+    let lent = [(0, 0, 0), (1, 0, 0), (0, 7, 3), (40, 40, 16)];
+    for ((book, lent), (cells, gap)) in every_two(&every_two(&books, &lent), &headers) {
+        let bundle = Bundle::with_gaps(cells, &[], &[gap]);
+        let case = BundleCase::of(&book, &bundle).with_lengths(lent.0, lent.1, lent.2);
+        tally.expect_sheets(&case, &[]);
     }
 }
 

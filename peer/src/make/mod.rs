@@ -15,6 +15,12 @@ pub use random::Random;
 
 use crate::compare::{BundleCase, Case};
 
+/// Each of the first with each of the second.
+pub fn every_two<A: Clone, B: Clone>(first: &[A], second: &[B]) -> Vec<(A, B)> {
+    let with_second = |a: &A| second.iter().map(|b| (a.clone(), b.clone())).collect::<Vec<_>>();
+    first.iter().flat_map(with_second).collect()
+}
+
 /// A case of any sort, for long runs: mostly small, now and then large, some
 /// of them damaged, a few without any form.
 pub fn any_case(random: &mut Random) -> Case {

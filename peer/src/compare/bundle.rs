@@ -6,7 +6,7 @@ use super::{
     keep_lengths, kept_lengths, outcome_of, run_proved_from, AnyCase, Case, Filled,
 };
 use crate::plain;
-use checkraven::Outcome;
+use checkraven::{Outcome, MOST_CELLS, MOST_SHEETS};
 use std::fs;
 use std::io;
 use std::ops::Range;
@@ -30,8 +30,8 @@ pub struct FilledBundle {
     pub outcomes: Vec<u64>,
 }
 
-/// Cells that 16 sheets of 128 lines need, and that the program lends.
-const USUAL_CELLS: usize = 16 * 516;
+/// Cells that the program lends in each result.
+const USUAL_CELLS: usize = MOST_SHEETS * MOST_CELLS;
 
 impl BundleCase {
     /// A case with a little more room than the bundle needs, up to what the
@@ -39,7 +39,7 @@ impl BundleCase {
     pub fn with_room(book: Vec<u8>, bundle: Vec<u8>) -> Self {
         let case = BundleCase { book, bundle, exact_len: 0, shown_len: 0, outcomes_len: 0 };
         let cells = case.sheet_count().saturating_mul(case.cells_per_sheet()).min(USUAL_CELLS);
-        let sheets = case.sheet_count().min(16);
+        let sheets = case.sheet_count().min(MOST_SHEETS);
         case.with_lengths(cells + 3, cells + 5, sheets + 2)
     }
 

@@ -33,7 +33,7 @@ impl<'a> Bundle<'a> {
         well_formed.then_some(Bundle { file, sheet_count, cells_per_sheet })
     }
 
-    fn sheets(&self) -> impl Iterator<Item = &'a [u8]> + use<'a> {
+    fn sheets(&self) -> impl Iterator<Item = &'a [u8]> + 'a {
         let file = self.file;
         let entries = &file[HEADER..HEADER + self.sheet_count * ENTRY];
         entries.chunks_exact(ENTRY).map(move |entry| {

@@ -24,18 +24,20 @@ fn main() -> ExitCode {
 
 fn replay_sheet(case: &Case) -> ExitCode {
     println!("results of {} and {} cells", case.exact_len, case.shown_len);
+    let verdict = verdict(case);
     let text = |filled: Filled| whole_output(case, filled.outcome, &filled.exact, &filled.shown);
     print("plain Rust", Ok(text(run_plain(case))));
     print("proved desk", run_proved(case).map(text));
-    verdict(case)
+    verdict
 }
 
 fn replay_bundle(case: &BundleCase) -> ExitCode {
     let BundleCase { exact_len, shown_len, outcomes_len, .. } = case;
     println!("results of {exact_len} and {shown_len} cells, {outcomes_len} outcomes");
+    let verdict = verdict(case);
     print("plain Rust", Ok(whole_bundle_output(case, &case.run_plain())));
     print("proved desk", case.run_proved().map(|filled| whole_bundle_output(case, &filled)));
-    verdict(case)
+    verdict
 }
 
 fn print(desk: &str, text: Result<String, String>) {
@@ -45,6 +47,7 @@ fn print(desk: &str, text: Result<String, String>) {
     }
 }
 
+/// Said first: a desk that is wrong may leave what can't be printed as tables.
 fn verdict(case: &impl AnyCase) -> ExitCode {
     match case.compare() {
         Ok(outcome) => {

@@ -2,7 +2,8 @@
  * Checkraven, the declaration desk: from a coefficient book and a sheet to
  * two tables, exact and shown.
  *
- * A sheet is one works' year for one pollutant in one medium.
+ * A sheet is one works' year for one pollutant in one medium. A bundle has
+ * several sheets for one call.
  */
 #ifndef CHECKRAVEN_H
 #define CHECKRAVEN_H
@@ -14,13 +15,16 @@
 extern "C" {
 #endif
 
-/* The answer for an accepted sheet. */
+/* The answer for an accepted sheet, and for a bundle that is taken. */
 #define CHECKRAVEN_ACCEPTED UINT64_C(0)
 
-/* The refusal numbers, in the order in which they are looked for. */
+/*
+ * The refusal numbers. For a sheet 1 to 11 are looked for in this order. For a
+ * whole bundle 16 is looked for first, then 3, and no other.
+ */
 #define CHECKRAVEN_BOOK_MALFORMED      1  /* book malformed or over a limit */
 #define CHECKRAVEN_SHEET_MALFORMED     2  /* sheet malformed, over a limit, or shown unit not 1 to 3 */
-#define CHECKRAVEN_RESULT_TOO_SHORT    3  /* either result shorter than 4 * (lines + 1) */
+#define CHECKRAVEN_RESULT_TOO_SHORT    3  /* either result shorter than 4 * (lines + 1), or no room for a bundle */
 #define CHECKRAVEN_ACTIVITY_TOO_LARGE  4  /* product or material above 10^9 kg */
 #define CHECKRAVEN_REUSE_TOO_LARGE     5  /* reuse above 1000, in any medium */
 #define CHECKRAVEN_NO_ROW              6  /* no row */
@@ -29,6 +33,7 @@ extern "C" {
 #define CHECKRAVEN_BAD_READING         9  /* a used reading is bad or over its limit */
 #define CHECKRAVEN_ZERO_DIVISOR       10  /* production hours, rated kW or energy run hours 0 as thousandths */
 #define CHECKRAVEN_K_ABOVE_ONE        11  /* k above 1 */
+#define CHECKRAVEN_BUNDLE_MALFORMED   16  /* bundle malformed or over a limit */
 
 /* Number and line of a refusal. The line counts from 1; 0 means a whole file. */
 #define CHECKRAVEN_NUMBER(answer) ((unsigned)((answer) / UINT64_C(65536)))
@@ -39,6 +44,9 @@ extern "C" {
 
 /* Cells that are enough for every sheet: 128 lines and the row of sums. */
 #define CHECKRAVEN_MOST_CELLS CHECKRAVEN_CELLS(128)
+
+/* The most sheets in a bundle. */
+#define CHECKRAVEN_MOST_SHEETS 16
 
 /* Bytes that are enough for the report of every sheet. */
 #define CHECKRAVEN_MOST_TEXT 28664
@@ -71,6 +79,45 @@ uint64_t checkraven_account(const uint8_t *book, size_t book_len,
                             const uint8_t *sheet, size_t sheet_len,
                             uint64_t *exact, size_t exact_len,
                             uint64_t *shown, size_t shown_len);
+
+/*
+ * Accounts for every sheet of a bundle with one book.
+ *
+ * Lent for reading: the book (book_len bytes) and the bundle (bundle_len
+ * bytes). They never change.
+ * Lent for writing: the results exact (exact_len cells) and shown (shown_len
+ * cells), and outcomes (outcomes_len cells). They overlap neither each other
+ * nor the files.
+ * No pointer is null, also where its length is 0, and exact, shown and outcomes
+ * are aligned as uint64_t. The files may stand at any address.
+ *
+ * A bundle has at most 65,536 bytes, little-endian: its length u32, the number
+ * of its sheets u16 (at most 16), zero u16, cells per sheet u32, then for each
+ * sheet its offset u32 and its length u32. No sheet begins before the end of
+ * these entries or of the sheet before it, and all end inside the length. What
+ * lies between them isn't looked at.
+ *
+ * The answer is 0 for a bundle that is taken, also where a sheet is refused.
+ * Sheet i, counted from 0, owns the cells from i * cells on, as many as there
+ * are cells per sheet, in each result. These runs and outcomes[i] are then
+ * what checkraven_account leaves and answers for that sheet alone, with the
+ * two runs lent to it: a refused sheet's runs are zero, and no other's. Cells
+ * past all runs keep their values, and so do outcomes past the number of
+ * sheets. A bad book is refused for each sheet; a bundle without sheets is
+ * taken with any book and changes nothing.
+ *
+ * Otherwise the answer is number * 65536, and all cells of exact, shown and
+ * outcomes are zero:
+ *   CHECKRAVEN_BUNDLE_MALFORMED: the bundle isn't as above.
+ *   CHECKRAVEN_RESULT_TOO_SHORT: either result has fewer than sheets * cells
+ *                                per sheet, or outcomes fewer than sheets.
+ * They are looked for in this order, before the book and before any sheet.
+ */
+uint64_t checkraven_account_bundle(const uint8_t *book, size_t book_len,
+                                   const uint8_t *bundle, size_t bundle_len,
+                                   uint64_t *exact, size_t exact_len,
+                                   uint64_t *shown, size_t shown_len,
+                                   uint64_t *outcomes, size_t outcomes_len);
 
 /*
  * Writes the report of one sheet with one book: the text that the program

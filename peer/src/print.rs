@@ -1,8 +1,21 @@
 //! The outcome as the program prints it.
 
-use crate::compare::Case;
+use crate::compare::{BundleCase, Case, Filled, FilledBundle};
 use checkraven::Outcome;
 use std::fmt::Write;
+
+/// The whole output for a bundle whose lent cells the desk has filled.
+pub fn whole_bundle_output(case: &BundleCase, filled: &FilledBundle) -> String {
+    if !filled.outcome.is_accepted() {
+        return format!("{}\n", filled.outcome);
+    }
+    let sheet_output = |index| {
+        let Filled { outcome, exact, shown } = case.sheet_filled(filled, index);
+        let alone = whole_output(&case.sheet_alone(index), outcome, &exact, &shown);
+        format!("sheet {}\n{alone}", index + 1)
+    };
+    (0..case.sheet_count()).map(sheet_output).collect()
+}
 
 /// The whole output for a case whose results the desk has filled.
 pub fn whole_output(case: &Case, outcome: Outcome, exact: &[u64], shown: &[u64]) -> String {

@@ -1,17 +1,18 @@
 //! The example folders: each expected output stands beside both desks.
 
 use checkraven::Outcome;
-use peer::compare::{run_proved, Case, Tally};
+use peer::compare::{run_proved, BundleCase, Case, Filled, Tally};
 use peer::demand3;
 use peer::print::whole_output;
 use std::fs;
 use std::path::{Path, PathBuf};
 
-fn folders() -> Vec<PathBuf> {
+/// The folders that have this file.
+fn folders_with(file: &str) -> Vec<PathBuf> {
     let examples = Path::new(env!("CARGO_MANIFEST_DIR")).join("../examples");
     let entries = fs::read_dir(examples).expect("the examples folder is there");
     let mut folders: Vec<PathBuf> = entries.flatten().map(|entry| entry.path()).collect();
-    folders.retain(|folder| folder.join("expected.txt").exists());
+    folders.retain(|folder| folder.join(file).exists());
     folders.sort();
     folders
 }
@@ -26,17 +27,18 @@ fn without_shown(text: &str) -> String {
     text.lines().filter(|line| !line.starts_with("shown")).map(|line| format!("{line}\n")).collect()
 }
 
-fn check(tally: &mut Tally, folder: &Path) {
-    let case = Case::read(folder).expect("the example has both files");
-    let outcome = tally.compare(&case);
-    let filled = run_proved(&case).expect("the memory around is kept");
-    let output = whole_output(&case, outcome, &filled.exact, &filled.shown);
-    let expected = fs::read_to_string(folder.join("expected.txt")).unwrap();
-    assert_eq!(without_shown(&output), without_shown(&expected), "{}", folder.display());
-    if outcome != Outcome::Accepted {
+fn expected_text(folder: &Path) -> String {
+    fs::read_to_string(folder.join("expected.txt")).expect("the expected output is there")
+}
+
+/// What a desk has left for a sheet beside the expected output.
+fn check(case: &Case, filled: &Filled, expected: &str, folder: &Path) {
+    let output = whole_output(case, filled.outcome, &filled.exact, &filled.shown);
+    assert_eq!(without_shown(&output), without_shown(expected), "{}", folder.display());
+    if filled.outcome != Outcome::Accepted {
         return;
     }
-    let (exact, shown) = (table(&expected, "exact "), table(&expected, "shown "));
+    let (exact, shown) = (table(expected, "exact "), table(expected, "shown "));
     let unit = case.shown_unit();
     assert_eq!(demand3::check(&exact, &shown, unit), Ok(()), "{}", folder.display());
     // Where every cell is whole there is one shown table; else any allowed one
@@ -47,9 +49,45 @@ fn check(tally: &mut Tally, folder: &Path) {
 }
 
 #[test]
-fn every_example_folder() {
-    let mut tally = Tally::new("every_example_folder");
-    let folders = folders();
+fn every_example_of_a_sheet() {
+    let mut tally = Tally::new("every_example_of_a_sheet");
+    let folders = folders_with("sheet.bin");
     assert!(folders.len() >= 7, "the manuals' examples and the others are there");
-    folders.iter().for_each(|folder| check(&mut tally, folder));
+    for folder in folders {
+        let case = Case::read(&folder).expect("the example has both files");
+        tally.agree(&case);
+        let filled = run_proved(&case).expect("the memory around is kept");
+        check(&case, &filled, &expected_text(&folder), &folder);
+    }
+}
+
+/// The texts under the headings `sheet 1`, `sheet 2` and so on.
+fn sheet_texts(expected: &str) -> Vec<String> {
+    let mut texts = Vec::new();
+    for line in expected.lines() {
+        if line == format!("sheet {}", texts.len() + 1) {
+            texts.push(String::new());
+        } else {
+            *texts.last_mut().expect("a heading comes first") += &format!("{line}\n");
+        }
+    }
+    texts
+}
+
+#[test]
+fn every_example_of_a_bundle() {
+    let mut tally = Tally::new("every_example_of_a_bundle");
+    let folders = folders_with("bundle.bin");
+    assert!(!folders.is_empty(), "an example of a bundle is there");
+    for folder in folders {
+        let case = BundleCase::read(&folder).expect("the example has both files");
+        tally.expect_accepted(&case);
+        let filled = case.run_proved().expect("the memory around is kept");
+        let texts = sheet_texts(&expected_text(&folder));
+        assert_eq!(texts.len(), case.sheet_count(), "{}", folder.display());
+        for (index, text) in texts.iter().enumerate() {
+            let sheet = case.sheet_filled(&filled, index);
+            check(&case.sheet_alone(index), &sheet, text, &folder);
+        }
+    }
 }

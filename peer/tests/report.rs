@@ -61,7 +61,7 @@ fn every_example() {
     let examples = Path::new(env!("CARGO_MANIFEST_DIR")).join("../examples");
     let entries = fs::read_dir(examples).expect("the examples folder is there").flatten();
     let folders: Vec<_> =
-        entries.map(|e| e.path()).filter(|f| f.join("expected.txt").exists()).collect();
+        entries.map(|e| e.path()).filter(|f| f.join("sheet.bin").exists()).collect();
     assert!(folders.len() >= 7, "the manuals' examples and the others are there");
     for folder in folders {
         let case = Case::read(&folder).expect("the example has both files");

@@ -12,6 +12,19 @@ extern "C" {
         shown_len: usize,
     ) -> u64;
 
+    fn checkraven_account_bundle(
+        book: *const u8,
+        book_len: usize,
+        bundle: *const u8,
+        bundle_len: usize,
+        exact: *mut u64,
+        exact_len: usize,
+        shown: *mut u64,
+        shown_len: usize,
+        outcomes: *mut u64,
+        outcomes_len: usize,
+    ) -> u64;
+
     fn checkraven_report(
         book: *const u8,
         book_len: usize,
@@ -38,6 +51,30 @@ pub(crate) fn account(book: &[u8], sheet: &[u8], exact: &mut [u64], shown: &mut 
             exact.len(),
             shown.as_mut_ptr(),
             shown.len(),
+        )
+    }
+}
+
+pub(crate) fn account_bundle(
+    book: &[u8],
+    bundle: &[u8],
+    exact: &mut [u64],
+    shown: &mut [u64],
+    outcomes: &mut [u64],
+) -> u64 {
+    // SAFETY: as above, with a third `&mut` slice.
+    unsafe {
+        checkraven_account_bundle(
+            book.as_ptr(),
+            book.len(),
+            bundle.as_ptr(),
+            bundle.len(),
+            exact.as_mut_ptr(),
+            exact.len(),
+            shown.as_mut_ptr(),
+            shown.len(),
+            outcomes.as_mut_ptr(),
+            outcomes.len(),
         )
     }
 }

@@ -4,15 +4,18 @@
 //! A sheet is one works' year for one pollutant in one medium. The desk itself
 //! is proved; this crate lends it memory and names its answer. [`declare`]
 //! lends memory of its own and gives rows; [`account`] takes the caller's.
-//! [`report`] gives the text that the program prints.
+//! [`declare_bundle`] and [`account_bundle`] do the same for a bundle, which has
+//! all sheets of a works. [`report`] gives the text that the program prints.
 
 use std::fmt;
 
+mod bundle;
 mod desk;
 mod refusal;
 mod report;
 mod tables;
 
+pub use bundle::{account_bundle, declare_bundle, Works, MOST_SHEETS};
 pub use refusal::{Refusal, Refused};
 pub use report::{report, report_into, MOST_TEXT};
 pub use tables::{Line, Row, Tables, Total, Unit};
@@ -29,13 +32,13 @@ pub const fn cells_for(lines: usize) -> usize {
     tables::COLUMNS * (lines + 1)
 }
 
-/// What the desk answers to [`account`].
+/// What the desk answers to [`account`], and to [`account_bundle`] for the whole.
 #[derive(Clone, Copy, Debug, PartialEq, Eq, Hash)]
 #[must_use = "the tables stand only if the sheet was accepted"]
 pub enum Outcome {
-    /// Both tables stand in the lent results.
+    /// Both tables stand in the lent results; a bundle is taken.
     Accepted,
-    /// The first refusal; all cells of both lent results are zero.
+    /// The first refusal; all cells of the lent results are zero.
     Refused {
         /// The refusal number; [`Refusal::from_number`] has its name.
         number: u32,
@@ -60,7 +63,8 @@ impl Outcome {
     }
 
     /// Takes apart the desk's own number: 0, or refusal number * 65536 + line.
-    fn from_answer(answer: u64) -> Self {
+    /// The outcomes that [`account_bundle`] leaves are such numbers.
+    pub fn from_answer(answer: u64) -> Self {
         match answer {
             0 => Outcome::Accepted,
             _ => Outcome::Refused {

@@ -3,7 +3,7 @@
 use std::error::Error;
 use std::fmt;
 
-/// Why a sheet is refused. Shown in the words of the rules.
+/// Why a sheet or a bundle is refused. Shown in the words of the rules.
 #[derive(Clone, Copy, Debug, PartialEq, Eq, Hash)]
 #[non_exhaustive]
 pub enum Refusal {
@@ -18,13 +18,15 @@ pub enum Refusal {
     BadReading,
     ZeroDivisor,
     KAboveOne,
+    BundleMalformed,
     /// A number that this crate has no name for: the library is newer than it.
     Unnamed(u32),
 }
 
 impl Refusal {
-    /// All that have names, in the order in which they are looked for.
-    pub const NAMED: [Refusal; 11] = [
+    /// All that have names, by their numbers. Those of a sheet are looked for in
+    /// this order; of a whole bundle `BundleMalformed` comes before `ResultTooShort`.
+    pub const NAMED: [Refusal; 12] = [
         Refusal::BookMalformed,
         Refusal::SheetMalformed,
         Refusal::ResultTooShort,
@@ -36,6 +38,7 @@ impl Refusal {
         Refusal::BadReading,
         Refusal::ZeroDivisor,
         Refusal::KAboveOne,
+        Refusal::BundleMalformed,
     ];
 
     pub fn from_number(number: u32) -> Self {
@@ -54,7 +57,9 @@ impl Refusal {
             Refusal::SheetMalformed => {
                 (2, "sheet malformed, over a limit, or shown unit not 1 to 3")
             }
-            Refusal::ResultTooShort => (3, "either result shorter than 4 × (lines + 1)"),
+            Refusal::ResultTooShort => {
+                (3, "either result shorter than 4 × (lines + 1), or no room for a bundle")
+            }
             Refusal::ActivityTooLarge => (4, "product or material above 10^9 kg"),
             Refusal::ReuseTooLarge => (5, "reuse above 1000, in any medium"),
             Refusal::NoRow => (6, "no row"),
@@ -65,6 +70,7 @@ impl Refusal {
                 (10, "production hours, rated kW or energy run hours 0 as thousandths")
             }
             Refusal::KAboveOne => (11, "k above 1"),
+            Refusal::BundleMalformed => (16, "bundle malformed or over a limit"),
             Refusal::Unnamed(number) => (number, "a refusal that has no name here"),
         }
     }
@@ -98,15 +104,14 @@ mod tests {
 
     #[test]
     fn names_and_numbers_lead_to_each_other() {
-        for (index, refusal) in Refusal::NAMED.into_iter().enumerate() {
-            assert_eq!(refusal.number() as usize, index + 1);
-            assert_eq!(Refusal::from_number(refusal.number()), refusal);
-        }
+        let numbers = Refusal::NAMED.map(Refusal::number);
+        assert_eq!(numbers, [1, 2, 3, 4, 5, 6, 7, 8, 9, 10, 11, 16]);
+        assert_eq!(numbers.map(Refusal::from_number), Refusal::NAMED);
     }
 
     #[test]
     fn a_number_without_a_name_is_kept() {
-        for number in [0, 12, 23, u32::MAX] {
+        for number in [0, 12, 15, 17, 23, u32::MAX] {
             assert_eq!(Refusal::from_number(number), Refusal::Unnamed(number));
             assert_eq!(Refusal::from_number(number).number(), number);
         }

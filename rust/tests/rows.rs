@@ -10,7 +10,7 @@ fn folders() -> Vec<PathBuf> {
     let examples = concat!(env!("CARGO_MANIFEST_DIR"), "/../examples");
     let entries = fs::read_dir(examples).expect("the examples folder is there");
     let mut folders: Vec<PathBuf> = entries.flatten().map(|entry| entry.path()).collect();
-    folders.retain(|folder| folder.join("expected.txt").exists());
+    folders.retain(|folder| folder.join("sheet.bin").exists());
     folders.sort();
     folders
 }

@@ -1,8 +1,8 @@
-//! Compares both desks on cases of any sort for a while:
-//! `long_run [SECONDS] [SEED]`, by default one minute with seed 1.
+//! Compares both desks on cases of any sort for a while, one in ten of them a
+//! bundle: `long_run [SECONDS] [SEED]`, by default one minute with seed 1.
 
-use peer::compare::{compare, keep};
-use peer::make::{any_case, Random};
+use peer::compare::{keep, AnyCase};
+use peer::make::{any_bundle, any_case, Random};
 use std::process::ExitCode;
 use std::time::{Duration, Instant};
 
@@ -28,16 +28,25 @@ fn run(length: Duration, seed: u64) -> (u64, u64) {
     let begin = Instant::now();
     let mut next_word = Duration::from_secs(10);
     while begin.elapsed() < length {
-        let case = any_case(&mut random);
         cases += 1;
-        if let Err(what) = compare(&case) {
-            disagreements += 1;
-            println!("{what}: {}", keep("long-run", &case, &what).display());
-        }
+        let agreed = match random.chance(10) {
+            true => agrees(&any_bundle(&mut random)),
+            false => agrees(&any_case(&mut random)),
+        };
+        disagreements += u64::from(!agreed);
         if begin.elapsed() >= next_word {
             println!("{cases} cases after {} s", next_word.as_secs());
             next_word += Duration::from_secs(10);
         }
     }
     (cases, disagreements)
+}
+
+/// A disagreement is printed and kept as files.
+fn agrees(case: &impl AnyCase) -> bool {
+    let what = case.compare().err();
+    if let Some(what) = &what {
+        println!("{what}: {}", keep("long-run", case, what).display());
+    }
+    what.is_none()
 }

@@ -1,8 +1,8 @@
-//! Replays one case: `replay FOLDER` with book.bin and sheet.bin, and
-//! lengths.txt where the lengths of the results matter.
+//! Replays one case: `replay FOLDER` with book.bin and sheet.bin or bundle.bin,
+//! and lengths.txt where the lengths of what is lent matter.
 
-use peer::compare::{compare, run_plain, run_proved, Case, Filled};
-use peer::print::whole_output;
+use peer::compare::{run_plain, run_proved, AnyCase, BundleCase, Case, Filled};
+use peer::print::{whole_bundle_output, whole_output};
 use std::path::Path;
 use std::process::ExitCode;
 
@@ -11,20 +11,45 @@ fn main() -> ExitCode {
         eprintln!("usage: replay FOLDER");
         return ExitCode::from(2);
     };
-    let case = match Case::read(Path::new(&folder)) {
-        Ok(case) => case,
-        Err(error) => {
-            eprintln!("{folder}: {error}");
-            return ExitCode::from(2);
-        }
+    let path = Path::new(&folder);
+    let replayed = match path.join("bundle.bin").exists() {
+        true => BundleCase::read(path).map(|case| replay_bundle(&case)),
+        false => Case::read(path).map(|case| replay_sheet(&case)),
     };
+    replayed.unwrap_or_else(|error| {
+        eprintln!("{folder}: {error}");
+        ExitCode::from(2)
+    })
+}
+
+fn replay_sheet(case: &Case) -> ExitCode {
     println!("results of {} and {} cells", case.exact_len, case.shown_len);
-    print("plain Rust", &case, &run_plain(&case));
-    match run_proved(&case) {
-        Ok(filled) => print("proved desk", &case, &filled),
-        Err(what) => println!("proved desk: {what}"),
+    let verdict = verdict(case);
+    let text = |filled: Filled| whole_output(case, filled.outcome, &filled.exact, &filled.shown);
+    print("plain Rust", Ok(text(run_plain(case))));
+    print("proved desk", run_proved(case).map(text));
+    verdict
+}
+
+fn replay_bundle(case: &BundleCase) -> ExitCode {
+    let BundleCase { exact_len, shown_len, outcomes_len, .. } = case;
+    println!("results of {exact_len} and {shown_len} cells, {outcomes_len} outcomes");
+    let verdict = verdict(case);
+    print("plain Rust", Ok(whole_bundle_output(case, &case.run_plain())));
+    print("proved desk", case.run_proved().map(|filled| whole_bundle_output(case, &filled)));
+    verdict
+}
+
+fn print(desk: &str, text: Result<String, String>) {
+    match text {
+        Ok(text) => print!("{desk}:\n{text}"),
+        Err(what) => println!("{desk}: {what}"),
     }
-    match compare(&case) {
+}
+
+/// Said first: a desk that is wrong may leave what can't be printed as tables.
+fn verdict(case: &impl AnyCase) -> ExitCode {
+    match case.compare() {
         Ok(outcome) => {
             println!("both agree: {outcome}");
             ExitCode::SUCCESS
@@ -34,9 +59,4 @@ fn main() -> ExitCode {
             ExitCode::FAILURE
         }
     }
-}
-
-fn print(desk: &str, case: &Case, filled: &Filled) {
-    println!("{desk}:");
-    print!("{}", whole_output(case, filled.outcome, &filled.exact, &filled.shown));
 }

@@ -1,11 +1,12 @@
 //! The benchmark: the proved desk beside plain Rust in one run, on the same
-//! inputs, by turns. Prints a table in markdown.
+//! inputs, by turns. Prints a table in markdown. For a bundle it prints besides
+//! what the same sheets take in calls of their own.
 //!
 //! Usage: `speed [ROUNDS [WORD]]`, by default 200 rounds a case, and only the
 //! cases that have the word in their names.
 
-use peer::compare::{compare, earlier_cells, run_plain, Case};
-use peer::make::{Book, Line, Random, Row, Sheet, Technique};
+use peer::compare::{earlier_cells, run_plain, AnyCase, BundleCase, Case};
+use peer::make::{Book, Bundle, Line, Random, Row, Sheet, Technique};
 use peer::plain;
 use std::hint::black_box;
 use std::time::{Duration, Instant};
@@ -23,12 +24,36 @@ fn main() {
     println!("|---|---|---|---|");
     let wanted = std::env::args().nth(2).unwrap_or_default();
     for (name, case) in cases().into_iter().filter(|(name, _)| name.contains(&wanted)) {
-        let outcome = compare(&case).expect("both desks agree on the case");
+        let outcome = case.compare().expect("both desks agree on the case");
         assert!(outcome.is_accepted(), "{name} is {outcome}");
-        let (proved, plain) = measure(&case, rounds);
-        let ratio = proved.median / plain.median;
-        println!("| {name} | {} | {} | {ratio:.2} |", proved.text(), plain.text());
+        let [proved, plain] = measure(&case, [call_proved, call_plain], rounds);
+        print_row(&name, &proved, &plain);
     }
+    if BUNDLE.contains(&wanted) {
+        time_bundle(rounds);
+    }
+}
+
+fn print_row(name: &str, proved: &Times, plain: &Times) {
+    let ratio = proved.median / plain.median;
+    println!("| {name} | {} | {} | {ratio:.2} |", proved.text(), plain.text());
+}
+
+const BUNDLE: &str = "bundle: 16 sheets of 8 lines, book of 1,024 rows";
+
+/// The last row of the table, and a line under it.
+fn time_bundle(rounds: usize) {
+    let works = works();
+    let outcome = works.case.compare().expect("both desks agree on the bundle");
+    assert!(outcome.is_accepted(), "{BUNDLE} is {outcome}");
+    let accepted = works.case.run_plain().outcomes[..16].iter().all(|&outcome| outcome == 0);
+    assert!(accepted, "every sheet is accepted");
+    let calls = [call_proved_bundle, call_plain_bundle, call_proved_alone];
+    let [proved, plain, alone] = measure(&works, calls, rounds);
+    print_row(BUNDLE, &proved, &plain);
+    let times = alone.median / proved.median;
+    println!("\nIts 16 sheets in 16 calls of the proved desk: {}.", alone.text());
+    println!("The one call for the bundle is {times:.1} times as fast.");
 }
 
 fn cases() -> Vec<(String, Case)> {
@@ -69,18 +94,26 @@ fn typical_case() -> Case {
     Case::of(&book, &Sheet::new(1, 1, 1, (0..5).map(line).collect()))
 }
 
-/// As much as both files hold, each line by energy in another row. A divisor of
-/// half a kilowatt has 32 bits, a larger motor's has more.
+/// As much as both files hold.
 fn full_case(unit: u32, kilowatts: f64) -> Case {
+    Case::of(&full_book(), &Sheet::new(1, 1, unit, full_lines(kilowatts)))
+}
+
+fn full_book() -> Book {
     let row = |index: u16| Row {
         place: [3400, 1 + index / 32, 1 + index % 32, 1],
         ..Row::plain(1, 1, 150)
     };
-    let book = Book {
+    Book {
         rows: (0..1024).map(|index| row(index).with_techniques(2, 4 * index, 4)).collect(),
         techniques: (0..4096).map(|index| technique(1 + index % 4, 905)).collect(),
         gaps: [0; 3],
-    };
+    }
+}
+
+/// Each line by energy in another row. A divisor of half a kilowatt has 32 bits,
+/// a larger motor's has more.
+fn full_lines(kilowatts: f64) -> Vec<Line> {
     let mut random = Random::new(1);
     let line = |index: u16| {
         let energy = kilowatts * (200.0 + random.below(2_000_000) as f64 / 1000.0);
@@ -88,7 +121,22 @@ fn full_case(unit: u32, kilowatts: f64) -> Case {
         let line = Line::direct(product).treated(4, 2, [energy, kilowatts, 3600.0]);
         Line { place: [3400, 1 + index / 4, 1 + index % 32, 1], reuse: 333, ..line }
     };
-    Case::of(&book, &Sheet::new(1, 1, unit, (0..128).map(line).collect()))
+    (0..128).map(line).collect()
+}
+
+/// A bundle, and its sheets to be called for one by one.
+struct Works {
+    case: BundleCase,
+    sheets: Vec<Vec<u8>>,
+}
+
+/// The lines of the full sheet on 16 sheets, in kilograms.
+fn works() -> Works {
+    let lines = full_lines(0.5);
+    let sheet = |lines: &[Line]| Sheet::new(1, 1, 2, lines.to_vec()).bytes();
+    let sheets: Vec<Vec<u8>> = lines.chunks(8).map(sheet).collect();
+    let bundle = Bundle::of(4 * (8 + 1), &sheets);
+    Works { case: BundleCase::of(&full_book().bytes(), &bundle), sheets }
 }
 
 /// Every row names every technique, and all share them.
@@ -141,58 +189,97 @@ impl Times {
     }
 }
 
-/// The results as they were before each round; this isn't timed.
+/// What is lent, as it was before each round; this isn't timed.
 struct Results {
     exact: Vec<u64>,
     shown: Vec<u64>,
+    outcomes: Vec<u64>,
 }
 
 impl Results {
-    fn as_before(case: &Case) -> Self {
-        Results {
-            exact: earlier_cells(case.exact_len).collect(),
-            shown: earlier_cells(case.shown_len).collect(),
-        }
+    fn as_before(lengths: [usize; 3]) -> Self {
+        let [exact, shown, outcomes] = lengths.map(|length| earlier_cells(length).collect());
+        Results { exact, shown, outcomes }
     }
 }
 
+trait Timed {
+    /// Lengths of both results and of the outcomes.
+    fn lengths(&self) -> [usize; 3];
+}
+
+impl Timed for Case {
+    fn lengths(&self) -> [usize; 3] {
+        [self.exact_len, self.shown_len, 0]
+    }
+}
+
+impl Timed for Works {
+    fn lengths(&self) -> [usize; 3] {
+        [self.case.exact_len, self.case.shown_len, self.case.outcomes_len]
+    }
+}
+
+type Call<C> = fn(&C, &mut Results);
+
 fn call_proved(case: &Case, results: &mut Results) {
-    let Results { exact, shown } = results;
+    let Results { exact, shown, .. } = results;
     let outcome = checkraven::account(black_box(&case.book), black_box(&case.sheet), exact, shown);
     black_box(outcome.is_accepted());
 }
 
 fn call_plain(case: &Case, results: &mut Results) {
-    let Results { exact, shown } = results;
+    let Results { exact, shown, .. } = results;
     let answer = plain::account(black_box(&case.book), black_box(&case.sheet), exact, shown);
     black_box(answer.is_ok());
 }
 
-type Call = fn(&Case, &mut Results);
+fn call_proved_bundle(works: &Works, results: &mut Results) {
+    let (book, bundle) = (black_box(&works.case.book), black_box(&works.case.bundle));
+    let Results { exact, shown, outcomes } = results;
+    let outcome = checkraven::account_bundle(book, bundle, exact, shown, outcomes);
+    black_box(outcome.is_accepted());
+}
 
-/// Both desks by turns, and by turns which of them comes first.
-fn measure(case: &Case, rounds: usize) -> (Times, Times) {
-    let calls: [Call; 2] = [call_proved, call_plain];
+fn call_plain_bundle(works: &Works, results: &mut Results) {
+    let (book, bundle) = (black_box(&works.case.book), black_box(&works.case.bundle));
+    let Results { exact, shown, outcomes } = results;
+    let answer = plain::account_bundle(book, bundle, exact, shown, outcomes);
+    black_box(answer.is_ok());
+}
+
+/// Each sheet in a call of its own, with its runs lent.
+fn call_proved_alone(works: &Works, results: &mut Results) {
+    let cells = works.case.cells_per_sheet();
+    let runs = results.exact.chunks_exact_mut(cells).zip(results.shown.chunks_exact_mut(cells));
+    for (sheet, (exact, shown)) in works.sheets.iter().zip(runs) {
+        let book = black_box(&works.case.book);
+        let outcome = checkraven::account(book, black_box(sheet), exact, shown);
+        black_box(outcome.is_accepted());
+    }
+}
+
+/// All calls by turns, and by turns which of them comes first.
+fn measure<C: Timed, const N: usize>(case: &C, calls: [Call<C>; N], rounds: usize) -> [Times; N] {
     let repeats = calls.map(|call| repeats_in_a_round(case, call));
-    let mut times = [Vec::with_capacity(rounds), Vec::with_capacity(rounds)];
+    let mut times = calls.map(|_| Vec::with_capacity(rounds));
     for round in 0..rounds {
-        for turn in 0..2 {
-            let desk = (round + turn) % 2;
+        for turn in 0..N {
+            let desk = (round + turn) % N;
             times[desk].push(one_round(case, calls[desk], repeats[desk]));
         }
     }
-    let [proved, plain] = times.map(Times::of);
-    (proved, plain)
+    times.map(Times::of)
 }
 
-fn repeats_in_a_round(case: &Case, call: Call) -> u32 {
+fn repeats_in_a_round<C: Timed>(case: &C, call: Call<C>) -> u32 {
     let once = (0..5).map(|_| one_round(case, call, 1)).fold(f64::INFINITY, f64::min);
     (ROUND.as_secs_f64() * 1e6 / once.max(0.01)).clamp(1.0, 10_000.0) as u32
 }
 
 /// Microseconds of one call.
-fn one_round(case: &Case, call: Call, repeats: u32) -> f64 {
-    let mut results = Results::as_before(case);
+fn one_round<C: Timed>(case: &C, call: Call<C>, repeats: u32) -> f64 {
+    let mut results = Results::as_before(case.lengths());
     let begin = Instant::now();
     for _ in 0..repeats {
         call(case, &mut results);

@@ -22,6 +22,15 @@ pub fn damage(random: &mut Random, case: &mut Case) {
     }
 }
 
+/// Does one damage to a sheet, most often to a field of one of its lines.
+pub fn damage_sheet(random: &mut Random, sheet: &mut [u8]) {
+    match random.below(6) {
+        0 => change_byte(random, sheet),
+        1 => change_header(random, sheet),
+        _ => change_line_field(random, sheet),
+    }
+}
+
 /// Bytes without form, most often with their own length in front so that more
 /// than the length is looked at.
 pub fn formless_case(random: &mut Random) -> Case {
@@ -54,7 +63,7 @@ pub fn own_length(file: &mut [u8]) {
     }
 }
 
-fn change_byte(random: &mut Random, file: &mut [u8]) {
+pub fn change_byte(random: &mut Random, file: &mut [u8]) {
     if !file.is_empty() {
         let at = random.index(file.len());
         file[at] = random.bits() as u8;
@@ -119,8 +128,13 @@ fn change_line_field(random: &mut Random, sheet: &mut [u8]) {
 }
 
 fn change_length(random: &mut Random, case: &mut Case) {
-    let fix = random.chance(50);
     let file = if random.chance(50) { &mut case.book } else { &mut case.sheet };
+    change_length_of(random, file);
+}
+
+/// Cuts a file or makes it longer, with or without its own length in front.
+pub fn change_length_of(random: &mut Random, file: &mut Vec<u8>) {
+    let fix = random.chance(50);
     if random.chance(50) {
         let length = random.index(file.len() + 1);
         file.truncate(length);
@@ -133,7 +147,8 @@ fn change_length(random: &mut Random, case: &mut Case) {
     }
 }
 
-fn change_field(random: &mut Random, file: &mut [u8], at: usize, width: usize) {
+/// A field becomes an edge, or any number.
+pub fn change_field(random: &mut Random, file: &mut [u8], at: usize, width: usize) {
     let number = if random.chance(70) { random.pick(&edges::NUMBERS) } else { random.bits() };
     write_field(file, at, width, number);
 }

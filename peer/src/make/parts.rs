@@ -59,7 +59,7 @@ pub struct Sheet {
 }
 
 /// Gaps aren't looked at, so they hold what no well-formed part would.
-const GAP: u8 = 0xA7;
+pub const GAP: u8 = 0xA7;
 
 impl Row {
     /// A row by product in kg/t with whole kilograms and no technique.

@@ -3,6 +3,7 @@
 
 mod amounts;
 mod book;
+mod bundle;
 mod bytes;
 pub mod reading;
 mod sheet;
@@ -12,12 +13,24 @@ use book::Book;
 use sheet::{Line, Sheet};
 
 pub use amounts::Amounts;
+pub use bundle::account_bundle;
 
 /// A refusal: its number and the line, counted from 1; 0 for whole files.
 #[derive(Clone, Copy, Debug, PartialEq, Eq)]
 pub struct Refusal {
     pub number: u32,
     pub line: u32,
+}
+
+impl Refusal {
+    fn whole_file(number: u32) -> Self {
+        Refusal { number, line: 0 }
+    }
+
+    /// As one number, as it stands among a bundle's outcomes.
+    fn code(self) -> u64 {
+        self.number as u64 * 65_536 + self.line as u64
+    }
 }
 
 pub const BOOK_MALFORMED: u32 = 1;
@@ -31,8 +44,9 @@ pub const WRONG_KIND: u32 = 8;
 pub const BAD_READING: u32 = 9;
 pub const ZERO_DIVISOR: u32 = 10;
 pub const K_ABOVE_ONE: u32 = 11;
+pub const BUNDLE_MALFORMED: u32 = 16;
 
-/// Both house files have this limit.
+/// All house files have this limit.
 const MOST_BYTES: usize = 65_536;
 const MOST_KILOGRAMS: u64 = 1_000_000_000;
 const MOST_REUSE: u16 = 1000;
@@ -50,6 +64,16 @@ pub fn account(
     exact: &mut [u64],
     shown: &mut [u64],
 ) -> Result<(), Refusal> {
+    account_with(Book::read(book).as_ref(), sheet, exact, shown)
+}
+
+/// The same with a book that was read before, `None` where it is malformed.
+fn account_with(
+    book: Option<&Book>,
+    sheet: &[u8],
+    exact: &mut [u64],
+    shown: &mut [u64],
+) -> Result<(), Refusal> {
     let answer = fill_tables(book, sheet, exact, shown);
     if answer.is_err() {
         exact.fill(0);
@@ -59,19 +83,18 @@ pub fn account(
 }
 
 fn fill_tables(
-    book: &[u8],
+    book: Option<&Book>,
     sheet: &[u8],
     exact: &mut [u64],
     shown: &mut [u64],
 ) -> Result<(), Refusal> {
-    let whole_file = |number| Refusal { number, line: 0 };
-    let book = Book::read(book).ok_or(whole_file(BOOK_MALFORMED))?;
-    let sheet = Sheet::read(sheet).ok_or(whole_file(SHEET_MALFORMED))?;
+    let book = book.ok_or(Refusal::whole_file(BOOK_MALFORMED))?;
+    let sheet = Sheet::read(sheet).ok_or(Refusal::whole_file(SHEET_MALFORMED))?;
     let cells = 4 * (sheet.line_count() + 1);
     if exact.len() < cells || shown.len() < cells {
-        return Err(whole_file(RESULT_TOO_SHORT));
+        return Err(Refusal::whole_file(RESULT_TOO_SHORT));
     }
-    fill_exact(&book, &sheet, &mut exact[..cells])?;
+    fill_exact(book, &sheet, &mut exact[..cells])?;
     shown::fill(&exact[..cells], sheet.shown_unit, &mut shown[..cells]);
     Ok(())
 }

@@ -9,10 +9,11 @@ use native.Mathlib.Nat.{suc-mul, mul-le-mul-right, not-suc-le-zero, le-of-suc-le
 use lib.Dec.{leb}
 use borrow.Author.Tests.{leb-true}
 use Rattle.search.specs.Test.{every}
-use Rattle.search.proofs.LawTest.{either-way, clash, and-right, all-at, every-at}
+use Rattle.search.proofs.LawTest.{either-way, clash, and-left, and-right, all-at, every-at}
+use Rattle.headers.specs.House.{fileOk}
 use Rattle.answers.specs.declared.bundle.BundleOutcome.the-variants.{Taken, BundleMalformed, ResultTooShort}
-use Rattle.bundle.specs.Bundle.{bundleHeader, sheetCount, cellsPerSheet, entriesEnd, sheetOffset, sheetEnd}
-use Rattle.bundle.specs.Bundle.{bundleHeaderOk, afterTheOneBefore, entryOk, entriesOk, bundleOk}
+use Rattle.bundle.specs.Bundle.{bundleHeader, mostSheets, sheetCount, cellsPerSheet, entriesEnd, sheetOffset, sheetEnd}
+use Rattle.bundle.specs.Bundle.{bundleHeaderSize, bundleFits, bundleHeaderOk, afterTheOneBefore, entryOk, entriesOk, bundleOk}
 use Rattle.bundle.specs.Whole.{cellsOwned, roomy, bundleOutcome}
 
 pub first-sheet : (b : List ℕ) (i : ℕ) → i ≡ 0 → true ≡ afterTheOneBefore b i
@@ -49,6 +50,11 @@ module _ (b : List ℕ) (exact shown outcomes : ℕ) (h : roomy b exact shown ou
   unfolding tests
   outcomes-room = leb-true _ _ (every-at tests all-pass 2)
 
+pub taken-right : (b : List ℕ) (exact shown outcomes : ℕ) → bundleOutcome b exact shown outcomes ≡ Taken → bundleOk b ≡ true
+unfolding bundleOutcome
+taken-right b exact shown outcomes h =
+    either-way (bundleOk b) (λ p. p) (λ p. let e : BundleMalformed ≡ Taken = rw p at h in clash (cc))
+
 pub taken-room : (b : List ℕ) (exact shown outcomes : ℕ) → bundleOutcome b exact shown outcomes ≡ Taken → roomy b exact shown outcomes ≡ true
 unfolding bundleOutcome
 taken-room b exact shown outcomes h =
@@ -78,6 +84,13 @@ short-then b exact shown outcomes h g = rw (h, g) refl
 -- ---- where the sheets of a right bundle lie
 
 module _ (b : List ℕ) (right : bundleOk b ≡ true) where
+  -- at most so many
+  pub sheets-few : sheetCount b ≤ mostSheets
+  unfolding bundleOk bundleHeaderOk
+  sheets-few =
+      let header = and-left (bundleHeaderOk b) (entriesOk b) right in
+      leb-true _ _ (every-at (bundleFits b) (and-right (fileOk b 0 bundleHeaderSize) (every (bundleFits b)) header) 0)
+
   entry-right : (i : ℕ) → i < sheetCount b → entryOk b i ≡ true
   unfolding bundleOk
   entry-right i h = all-at (entryOk b) (sheetCount b) i (and-right (bundleHeaderOk b) (entriesOk b) right) h

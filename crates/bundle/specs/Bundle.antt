@@ -56,10 +56,12 @@ sheetOf b i = cond (ltb i (sheetCount b)) (partOf b (sheetOffset b i) (sheetLeng
 
 -- ---- when it is not malformed
 
+-- at most so many sheets, the zero, and the entries inside the length
+abbrev pub bundleFits : List ℕ → List Bool
+bundleFits b = leb (sheetCount b) mostSheets ∷ eqb (bundleHeader b .zero) 0 ∷ leb (entriesEnd b) (bundleHeader b .length) ∷ []
+
 unfoldable pub bundleHeaderOk : List ℕ → Bool
-bundleHeaderOk b =
-    fileOk b 0 bundleHeaderSize
-    && every (leb (sheetCount b) mostSheets ∷ eqb (bundleHeader b .zero) 0 ∷ leb (entriesEnd b) (bundleHeader b .length) ∷ [])
+bundleHeaderOk b = fileOk b 0 bundleHeaderSize && every (bundleFits b)
 
 -- sheet i does not begin before the end of the sheet before it
 unfoldable pub afterTheOneBefore : List ℕ → ℕ → Bool

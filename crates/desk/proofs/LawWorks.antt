@@ -9,10 +9,11 @@ use native.Mathlib.Omega.{arith}
 use native.Mathlib.Nat.{suc-mul, mul-le-mul-right, eq-or-lt-of-le}
 use native.Mathlib.Numerals.{add-one}
 use lib.ListN.{length, take, drop, set, length-drop, length-set}
-use lib.Seq.{drop-at, drop-drop, set-split, length-take-le, take-set-le, drop-set-lt}
+use lib.Seq.{drop-at, drop-drop, set-split, length-take-le, take-set-le, drop-set-lt, getD-take, getD-drop}
 use borrow.Rule.Slice.PartMut.{putMid, take-put}
 use Rattle.search.proofs.LawTest.{clash}
 use Rattle.little.specs.Part.{partOf}
+use Rattle.settle.specs.Shown.{at}
 use Rattle.little.proofs.LawPart.{put-read, part-kept}
 use Rattle.answers.specs.Answer.{codeOf}
 use Rattle.answers.specs.declared.answer.Outcome.{Outcome}
@@ -48,7 +49,8 @@ around-put from count cells part h e =
     ∙ drop-drop count from cells in
     record { before = take-put from count cells part (omega arith); past = far }
 
-run-size : (from count : ℕ) (cells : List ℕ) → from + count ≤ length cells → length (partOf cells from count) ≡ count
+-- a run inside a result has its cells
+pub run-size : (from count : ℕ) (cells : List ℕ) → from + count ≤ length cells → length (partOf cells from count) ≡ count
 run-size from count cells h = length-take-le count (drop from cells) (omega (arith, length-drop from cells))
 
 -- what a sheet makes of its runs, once these are back in the results
@@ -167,3 +169,12 @@ module _ (book bundle : List ℕ) (before : Results) (r : BundleOutcome) (after 
   sheet-as-alone q x y d =
       let same = declared-once _ _ _ _ _ _ _ _ _ (alone .declared) d in
       (alone .outcome ∙ ap (λ (o : Outcome). codeOf o ∷ []) (same .0), same .1, same .2)
+
+-- the outcome of a sheet as a cell
+pub outcome-cell : (book bundle : List ℕ) (before after : Results) (i : ℕ) (alone : AsAlone book bundle before after i)
+    → at (after .outcomes) i ≡ codeOf (alone .answer)
+outcome-cell book bundle before after i alone =
+    let cells = after .outcomes in
+    let place : i + 0 ≡ i = omega arith in
+    let there = getD-take 1 (drop i cells) 0 0 (omega arith) ∙ getD-drop i cells 0 0 in
+    rw place at (sym there ∙ ap (λ (l : List ℕ). at l 0) (alone .outcome))

@@ -1,85 +1,92 @@
--- What is told is the report: a refusal by its number and line, and figures by the two tables, which are the first cells of the results.
-use Prim.Native.Nat.{ℕ, _≤_, _<_}
-use mathlib.Core.Path.{_≡_, refl, ap, _∙_}
+-- What is told of the desk's answer by its code is the report: figures by the two tables, which are the first cells of the results, and a
+-- refusal by its number and line.
+use Prim.Native.Nat.{ℕ, _+_, _*_, _/_, _%_, _≤_, min}
+use mathlib.Core.Path.{_≡_, refl, sym, ap, _∙_}
+use mathlib.Core.Bool.{false}
 use mathlib.Core.List.{List}
-use mathlib.Core.Logic.{_≢_}
+use mathlib.Core.Logic.{⊎-elim, _≢_}
 use native.Mathlib.Omega.{arith}
-use lib.ListN.{length, take, drop, replicate}
+use lib.Dec.{eqb}
+use lib.ListN.{length, take, drop}
 use lib.Seq.{take-at}
-use borrow.Author.Tests.{le-leb, lt-leb}
-use Rattle.numerals.proofs.LawLaid.{length-laid, laid-is}
+use borrow.Author.Tests.{ne-eqb}
+use Rattle.search.proofs.LawTest.{clash}
 use Rattle.settle.proofs.LawShown.{shown-length}
-use Rattle.desk.specs.Lent.{Lent}
-use Rattle.headers.specs.Sheet.{lineCount, mostLines}
-use Rattle.desk.specs.Account.{lineOutcome}
-use Rattle.desk.specs.Cells.{tableSize}
-use Rattle.headers.specs.Unit.{unitOfSheet}
-use Rattle.answers.specs.Answer.{answerNumber, answerLine}
-use Rattle.desk.specs.Table.{answerOf}
-use Rattle.desk.specs.Declare.{shownAfter, Declared}
-use Rattle.desk.specs.Inner.{Ready}
+use Rattle.answers.specs.Answer.{lineRule, answerNumber, answerLine, numberUnit, codeOf}
+use Rattle.answers.specs.declared.answer.FileFault.the-variants.{BookMalformed, SheetMalformed, ResultTooShort}
+use Rattle.answers.specs.declared.answer.LineFault.{LineFault}
 use Rattle.answers.specs.declared.answer.Outcome.{Outcome}
 use Rattle.answers.specs.declared.answer.Outcome.the-variants.{Accepted, RefusedFile, RefusedLine}
+use Rattle.headers.specs.Sheet.{lineCount, mostLines}
+use Rattle.desk.specs.Lent.{Lent}
+use Rattle.desk.specs.Account.{lineOutcome}
+use Rattle.desk.specs.Cells.{tableSize}
+use Rattle.desk.specs.Declare.{shownAfter, Declared}
+use Rattle.desk.specs.Demands.{OfFile, OfLine}
+use Rattle.desk.specs.Inner.{Ready}
 use Rattle.desk.proofs.LawTable.{ready, lines-few}
-use Rattle.desk.proofs.LawDemands.{accepted}
+use Rattle.desk.proofs.LawDemands.{accepted, answer-line-small}
 use Rattle.desk.proofs.LawDeclare.{first-cells, settles}
-use Rattle.report.specs.declared.Written.the-variants.{Bytes, Short}
-use Rattle.report.specs.Report.{figuresText, refusalText, mostCells, exactOf, shownOf, reportFor, reportOf}
-use Rattle.report.specs.Report.{mostText, writtenOf, textAfter, Reported}
-use Rattle.report.specs.Inner.{mostRefusal, Puts}
-use Rattle.report.proofs.LawPut.{more}
+use Rattle.report.specs.Report.{exactOf, shownOf, reportFor}
+use Rattle.report.specs.Inner.{answerText}
 
-module _ (f : Lent) where
-  -- what an accepted sheet is
-  accepted-ready : answerOf f mostCells ≡ Accepted → Ready f mostCells
-  accepted-ready h = ready f mostCells (accepted f mostCells h .0)
+module _ (f : Lent) (exact shown : List ℕ) (answer : Outcome) (exact' shown' : List ℕ) (d : Declared f exact shown answer exact' shown') where
+  -- a refusal's number is at least 1
+  numbered : answer ≢ Accepted → 1 ≤ answerNumber answer
+  numbered refused =
+      ⊎-elim (λ (h : OfFile _ _). h .first) (λ (h : OfLine _ _ _). omega (arith, h .first)) (d .demand1 .numbered refused)
 
-  pub accepted-few : answerOf f mostCells ≡ Accepted → lineCount (f .sheet) ≤ mostLines
-  accepted-few h = lines-few (f .sheet) (accepted-ready h .sheet)
+  zero-accepted : codeOf answer ≡ 0 → answer ≡ Accepted
+  zero-accepted z = go answer refl
+    where
+      go : (o : Outcome) → answer ≡ o → answer ≡ Accepted
+      go Accepted e = e
+      go (RefusedFile k) e = absurd (omega (arith, z, numbered (λ (q : answer ≡ Accepted). clash (cc))))
+      go (RefusedLine k line) e = absurd (omega (arith, z, numbered (λ (q : answer ≡ Accepted). clash (cc))))
 
-  module _ {r : ℕ} {text text' : List ℕ} where
-    pub refusal-told : (o : Outcome) → o ≡ answerOf f mostCells → o ≢ Accepted
-        → Puts (refusalText (answerNumber o) (answerLine o)) mostRefusal 0 text r text' → Puts (reportOf f) mostText 0 text r text'
-    unfolding reportOf reportFor
-    refusal-told Accepted e refused p = absurd (refused refl)
-    refusal-told (RefusedFile fault) e refused p = rw (← e) (more p (omega arith))
-    refusal-told (RefusedLine fault line) e refused p = rw (← e) (more p (omega arith))
+  is-ready : answer ≡ Accepted → Ready f (min (length exact) (length shown))
+  is-ready e = ready f _ (accepted f _ (sym (d .demand1 .answer) ∙ e) .0)
 
-    -- the first cells of both results are the tables
-    pub figures-told : (exact shown exact' shown' : List ℕ) (n W : ℕ) → answerOf f mostCells ≡ Accepted
-        → Declared f exact shown Accepted exact' shown' → n ≡ lineCount (f .sheet) → W ≡ unitOfSheet (f .sheet)
-        → Puts (figuresText n W (take (tableSize n) exact') (take (tableSize n) shown')) mostText 0 text r text'
-        → Puts (reportOf f) mostText 0 text r text'
-    unfolding reportOf reportFor shownAfter
-    figures-told exact shown exact' shown' n W e d lines unit p =
-        let n₀ = lineCount (f .sheet) in
-        let good = accepted-ready e in
-        let size = shown-length (settles f (good .book) (good .sheet)) in
-        let first : take (tableSize n₀) exact' ≡ exactOf f = first-cells n₀ (lineOutcome f) exact exact' (d .tables .table) in
-        let second : take (tableSize n₀) shown' ≡ shownOf f =
-        ap (take (tableSize n₀)) (d .tables .shows) ∙ take-at (shownOf f) (drop (tableSize n₀) shown) (tableSize n₀) (omega (arith, size)) in
-        rw e (rw (lines, unit, first, second) at p)
+  -- a sheet that has figures has few lines
+  pub told-few : codeOf answer ≡ 0 → lineCount (f .sheet) ≤ mostLines
+  told-few z = lines-few (f .sheet) (is-ready (zero-accepted z) .sheet)
 
-    -- ---- the whole promise
+  -- the first cells of both results are the tables
+  module _ (ok : answer ≡ Accepted) where
+    first-exact : take (tableSize (lineCount (f .sheet))) exact' ≡ exactOf f
+    first-exact = first-cells (lineCount (f .sheet)) (lineOutcome f) exact exact' (rw ok at (d .tables .table))
 
-    -- the text keeps its size
-    same-size : Puts (reportOf f) mostText 0 text r text' → length text' ≡ length text
-    same-size p = ap length (p .holds) ∙ length-laid 0 (reportOf f) text
+    first-shown : take (tableSize (lineCount (f .sheet))) shown' ≡ shownOf f
+    unfolding shownAfter
+    first-shown =
+        let n = lineCount (f .sheet) in
+        let size = shown-length (settles f (is-ready ok .book) (is-ready ok .sheet)) in
+        let shows = rw ok at (d .tables .shows) in
+        ap (take (tableSize n)) shows ∙ take-at (shownOf f) (drop (tableSize n) shown) (tableSize n) (omega (arith, size))
 
-    pub all-bytes : Puts (reportOf f) mostText 0 text r text' → r ≤ length text' → Reported f text (Bytes r) text'
-    unfolding writtenOf textAfter
-    all-bytes p h =
-        let e : r ≡ length (reportOf f) = omega (arith, p .ends) in
-        let room : length (reportOf f) ≤ length text = omega (arith, same-size p) in
-        record {
-          fits = p .few;
-          answer = rw (le-leb _ _ room, e);
-          holds = rw e (p .holds ∙ laid-is (reportOf f) text room);
-        }
+  -- the parts of a line's code
+  module _ (k : LineFault) (line : ℕ) (e : answer ≡ RefusedLine k line) where
+    small : line ≤ mostLines
+    small = rw (← d .demand1 .answer, e) at (answer-line-small f (min (length exact) (length shown)))
 
-    pub no-room : Puts (reportOf f) mostText 0 text r text' → length text' < r → (cleared : List ℕ) → cleared ≡ replicate (length text') 0
-        → Reported f text Short cleared
-    unfolding writtenOf textAfter
-    no-room p h cleared zero =
-        let room : length text < length (reportOf f) = omega (arith, p .ends, same-size p) in
-        record { fits = p .few; answer = rw (lt-leb _ _ room); holds = rw (same-size p) at zero }
+    not-zero : eqb (codeOf (RefusedLine k line)) 0 ≡ false
+    not-zero =
+        let one : 1 ≤ lineRule k = rw e at (numbered (λ (q : answer ≡ Accepted). clash (cc))) in
+        ne-eqb (codeOf (RefusedLine k line)) 0 (λ (z : codeOf (RefusedLine k line) ≡ 0). omega (arith, z, one))
+
+    number-part : codeOf (RefusedLine k line) / numberUnit ≡ lineRule k
+    number-part = omega (arith, small)
+
+    line-part : codeOf (RefusedLine k line) % numberUnit ≡ line
+    line-part = omega (arith, small)
+
+  pub told-is : answerText (codeOf answer) (f .sheet) exact' shown' ≡ reportFor answer f
+  unfolding answerText reportFor
+  told-is = go answer refl
+    where
+      go : (o : Outcome) → answer ≡ o → answerText (codeOf o) (f .sheet) exact' shown' ≡ reportFor o f
+      go Accepted e = rw (first-exact e, first-shown e) refl
+      go (RefusedFile BookMalformed) e = refl
+      go (RefusedFile SheetMalformed) e = refl
+      go (RefusedFile ResultTooShort) e = refl
+      go (RefusedLine k line) e = rw (not-zero k line e, number-part k line e, line-part k line e) refl

@@ -1,4 +1,5 @@
 pub mod LawPut
 pub mod LawTold
+pub mod LawSheets
 pub mod LawReported
 pub mod LawWorked

@@ -146,8 +146,12 @@ unfoldable pub textAfter : (r : Written) (report text : List ℕ) → List ℕ
 textAfter (Bytes n) report text = report ++ drop n text
 textAfter Short report text = replicate (length text) 0
 
--- the whole promise for a book, a sheet and a lent text: the report fits the bound, r says whether it has room, and what the text holds
-pub record Reported (f : Lent) (text : List ℕ) (r : Written) (text' : List ℕ) : Type 0 where
-  pub fits : length (reportOf f) ≤ mostText
-  pub answer : r ≡ writtenOf (length (reportOf f)) (length text)
-  pub holds : text' ≡ textAfter r (reportOf f) text
+-- a report written at the start of a lent text: it fits the bound, r says whether it has room, and what the text holds
+pub record Wrote (report : List ℕ) (most : ℕ) (text : List ℕ) (r : Written) (text' : List ℕ) : Type 0 where
+  pub fits : length report ≤ most
+  pub answer : r ≡ writtenOf (length report) (length text)
+  pub holds : text' ≡ textAfter r report text
+
+-- the whole promise for a book, a sheet and a lent text
+abbrev pub Reported : (f : Lent) (text : List ℕ) (r : Written) (text' : List ℕ) → Type 0
+Reported f text r text' = Wrote (reportOf f) mostText text r text'

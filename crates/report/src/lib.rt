@@ -1,14 +1,19 @@
-// The report of a sheet as a text: the figures, or the refusal, byte for byte. It relies on the desk only through its promises.
+// The report of a sheet, and of a bundle, as a text: the figures, or the refusal, byte for byte. It relies on the desk only through its promises.
 mod put;
 mod rows;
+mod sheets;
 mod told;
 
 ghost use Rattle.desk.specs.Lent.{lent};
 ghost use Rattle.report.specs.Report.{Reported};
+ghost use Rattle.report.specs.Bundle.{ReportedBundle};
+ghost use Rattle.report.specs.Inner.{Finished};
+use bundle::header::MOST_SHEETS;
 use headers::sheet::MOST_LINES;
 use numerals::bytes::clear;
 use put::MOST_NUMBER;
 use rows::MOST_ROW;
+use sheets::told_bundle;
 use told::told;
 
 // The bytes of the unit's line, at most: the word, the number and the line end.
@@ -17,10 +22,25 @@ const MOST_UNIT: usize = 4 + MOST_NUMBER + 1;
 // The bytes of a report, at most: two tables of all rows, and the unit's line.
 pub const MOST_TEXT: usize = 2 * (MOST_ROW * (MOST_LINES + 1)) + MOST_UNIT;
 
+// The bytes of a bundle's report, at most: for each sheet its line, of a word, a number and the line end, and its report.
+pub const MOST_BUNDLE_TEXT: usize = MOST_SHEETS * (5 + MOST_NUMBER + 1 + MOST_TEXT);
+
 // The bytes that are written; or no room for them.
 pub enum Written {
     Bytes(usize),
     Short,
+}
+
+// All of a text that ends there was put; or its end is past the text, and then nothing stands.
+fn finished(text: &mut [u8], end: usize) -> Written
+    ensures { λ r. ⌜ Finished end (now (text .entry)) r (now (text .exit)) ⌝ }
+{
+    if end <= text.len() {
+        Written::Bytes(end)
+    } else {
+        clear(text);
+        Written::Short
+    }
 }
 
 // The report for a book and a sheet of any content, at the start of a text of any size. The bytes past the report keep their values.
@@ -29,10 +49,13 @@ pub fn report(book: &[u8], sheet: &[u8], text: &mut [u8]) -> Written
     ensures { λ r. ⌜ Reported (lent (now (book .entry)) (now (sheet .entry))) (now (text .entry)) r (now (text .exit)) ⌝ }
 {
     let end = told(book, sheet, text);
-    if end <= text.len() {
-        Written::Bytes(end)
-    } else {
-        clear(text);
-        Written::Short
-    }
+    finished(text, end)
+}
+
+// The report for a book and a bundle of any content, likewise; a text of `MOST_BUNDLE_TEXT` bytes always has room.
+pub fn report_bundle(book: &[u8], bundle: &[u8], text: &mut [u8]) -> Written
+    ensures { λ r. ⌜ ReportedBundle (now (book .entry)) (now (bundle .entry)) (now (text .entry)) r (now (text .exit)) ⌝ }
+{
+    let end = told_bundle(book, bundle, text);
+    finished(text, end)
 }

@@ -5,24 +5,25 @@ ghost use lib.ListN.{take};
 ghost use Rattle.desk.specs.Lent.{lent};
 ghost use Rattle.headers.specs.Sheet.{mostLines};
 ghost use Rattle.report.specs.Report.{mostUnit, mostText, unitText, figuresText, refusalText, reportOf};
-ghost use Rattle.report.specs.Inner.{reach, mostRefusal, Puts};
+ghost use Rattle.report.specs.Inner.{reach, mostRefusal, Puts, answerText, Tellable};
 use super::put::number;
 use super::put::put;
 use super::rows::table;
-use answers::answer::Outcome;
+use answers::answer::NUMBER_UNIT;
 use desk::cells::COLUMNS;
 use desk::declare::declare;
 use desk::table::MOST_CELLS;
 use headers::sheet::line_count;
 use headers::unit::unit_of;
 
-fn refusal(text: &mut [u8], rule: u16, line: u16) -> usize
-    ensures { λ r. ⌜ Puts (refusalText rule line) mostRefusal 0 (now (text .entry)) r (now (text .exit)) ⌝ }
+pub(crate) fn refusal(text: &mut [u8], at: usize, rule: u64, line: u64) -> usize
+    requires { ⌜ at + mostRefusal ≤ reach ⌝ }
+    ensures { λ r. ⌜ Puts (refusalText rule line) mostRefusal at (now (text .entry)) r (now (text .exit)) ⌝ }
 {
-    let word = put(text, 0, b"refused");
-    let numbered = number(text, word, rule as u64);
-    let at = put(text, numbered, b" line");
-    let lined = number(text, at, line as u64);
+    let word = put(text, at, b"refused");
+    let numbered = number(text, word, rule);
+    let named = put(text, numbered, b" line");
+    let lined = number(text, named, line);
     put(text, lined, b"\n")
 }
 
@@ -35,12 +36,19 @@ fn unit_line(text: &mut [u8], at: usize, unit: u64) -> usize
     put(text, numbered, b"\n")
 }
 
-fn figures(text: &mut [u8], lines: usize, unit: u64, exact: &[u64], shown: &[u64]) -> usize
-    requires { ⌜ lines ≤ mostLines ⌝ }
+fn figures(
+    text: &mut [u8],
+    at: usize,
+    lines: usize,
+    unit: u64,
+    exact: &[u64],
+    shown: &[u64],
+) -> usize
+    requires { ⌜ (lines ≤ mostLines) × (at + mostText ≤ reach) ⌝ }
     ensures { λ r. ⌜ Puts (figuresText lines unit (now (exact .entry)) (now (shown .entry))) mostText
-        0 (now (text .entry)) r (now (text .exit)) ⌝ }
+        at (now (text .entry)) r (now (text .exit)) ⌝ }
 {
-    let first = table(text, 0, b"exact", exact, lines);
+    let first = table(text, at, b"exact", exact, lines);
     let second = unit_line(text, first, unit);
     table(text, second, b"shown", shown, lines)
 }
@@ -56,6 +64,34 @@ fn first_cells(cells: &[u64], count: usize) -> &[u64]
     }
 }
 
+// The desk's answer to a sheet as one number, and the results as the desk left them.
+pub(crate) fn tell(
+    text: &mut [u8],
+    at: usize,
+    sheet: &[u8],
+    code: u64,
+    exact: &[u64],
+    shown: &[u64],
+) -> usize
+    requires { ⌜ Tellable at code (now sheet) ⌝ }
+    ensures { λ r. ⌜ Puts (answerText code (now (sheet .entry)) (now (exact .entry)) (now (shown .entry))) mostText
+        at (now (text .entry)) r (now (text .exit)) ⌝ }
+{
+    if code == 0 {
+        let lines = line_count(sheet);
+        let cells = COLUMNS * (lines + 1);
+        return figures(
+            text,
+            at,
+            lines,
+            unit_of(sheet),
+            first_cells(exact, cells),
+            first_cells(shown, cells),
+        );
+    }
+    refusal(text, at, code / NUMBER_UNIT, code % NUMBER_UNIT)
+}
+
 // The desk is lent results with room for every sheet.
 pub(crate) fn told(book: &[u8], sheet: &[u8], text: &mut [u8]) -> usize
     ensures { λ r. ⌜ Puts (reportOf (lent (now (book .entry)) (now (sheet .entry)))) mostText
@@ -64,16 +100,5 @@ pub(crate) fn told(book: &[u8], sheet: &[u8], text: &mut [u8]) -> usize
     let mut exact = [0u64; MOST_CELLS];
     let mut shown = [0u64; MOST_CELLS];
     let outcome = declare(book, sheet, &mut exact, &mut shown);
-    if let Outcome::Accepted = outcome {
-        let lines = line_count(sheet);
-        let cells = COLUMNS * (lines + 1);
-        return figures(
-            text,
-            lines,
-            unit_of(sheet),
-            first_cells(&exact, cells),
-            first_cells(&shown, cells),
-        );
-    }
-    refusal(text, outcome.number(), outcome.line())
+    tell(text, 0, sheet, outcome.code(), &exact, &shown)
 }

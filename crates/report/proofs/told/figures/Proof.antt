@@ -8,15 +8,10 @@ use Rattle.report.proofs.told.figures.Tie as tie
 
 returns : tie.Need-returns
 unfolding figuresText
-returns c =
-    let table = c .before .before .before .before .before .before .before .before .before .before .before .table in
-    let unit-line = c .before .before .before .before .before .before .before .unit-line in
-    let table2 = c .before .before .table2 in
-    let asked = c .before .before .before .before .before .before .before .before .before .before .before .before .before .before .before .before .before .pre in
-    more (then (then (table .ensures) (unit-line .ensures)) (table2 .ensures)) (omega (arith, asked))
+returns c = more (then (then (c .before .before .before .before .before .before .before .before .before .before .before .table .ensures) (c .before .before .before .before .before .before .before .unit-line .ensures)) (c .before .before .table2 .ensures)) (omega (arith, c .before .before .before .before .before .before .before .before .before .before .before .before .before .before .before .before .before .pre .0))
 
 pub figures-spec : {M : Type 1} → statement M
 figures-spec =
     tie.close
-    (tie.spec (λ c. search needs) (λ c κs. search needs) (λ c κs. search needs) (λ c. search needs) (λ c κs. search needs)
-    (λ c. search needs) returns)
+    (tie.spec (λ c. search needs) (λ c κs. search needs) (λ c κs. search needs) (λ c. search needs) (λ c κs. search needs) (λ c. search needs)
+    returns)

@@ -7,13 +7,7 @@ use Rattle.report.proofs.told.refusal.Tie as tie
 
 returns : tie.Need-returns
 unfolding refusalText
-returns c =
-    let put = c .before .before .before .before .before .before .before .before .before .before .before .before .before .before .before .before .before .before .before .before .put in
-    let number = c .before .before .before .before .before .before .before .before .before .before .before .before .before .before .before .before .number in
-    let put2 = c .before .before .before .before .before .before .before .before .before .before .before .put2 in
-    let number2 = c .before .before .before .before .before .before .before .number2 in
-    let put3 = c .before .before .put3 in
-    then (then (then (then (put .ensures) (number .ensures)) (put2 .ensures)) (number2 .ensures)) (put3 .ensures)
+returns c = then (then (then (then (c .before .before .before .before .before .before .before .before .before .before .before .before .before .before .before .before .before .before .before .before .put .ensures) (c .before .before .before .before .before .before .before .before .before .before .before .before .before .before .before .before .number .ensures)) (c .before .before .before .before .before .before .before .before .before .before .before .put2 .ensures)) (c .before .before .before .before .before .before .before .number2 .ensures)) (c .before .before .put3 .ensures)
 
 pub refusal-spec : {M : Type 1} → statement M
 refusal-spec =

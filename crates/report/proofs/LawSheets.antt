@@ -1,0 +1,100 @@
+-- What is told of the sheets of a bundle is each sheet's line and its own report.
+use Prim.Native.Nat.{ℕ, zero, suc, _+_, _*_, _≤_, _<_, min}
+use mathlib.Core.Path.{_≡_, refl, sym, ap, _∙_}
+use mathlib.Core.Bool.{true}
+use mathlib.Core.List.{List, [], _++_}
+use mathlib.Core.Logic.{_≢_}
+use native.Mathlib.Nat.{mul-suc, mul-le-mul-left}
+use native.Mathlib.Numerals.{add-one}
+use native.Mathlib.Omega.{arith}
+use lib.ListN.{length}
+use Rattle.search.proofs.LawTest.{clash}
+use Rattle.settle.specs.Shown.{at as cell}
+use Rattle.headers.specs.Sheet.{lineCount, mostLines}
+use Rattle.answers.specs.Answer.{codeOf}
+use Rattle.answers.specs.Bundle.{bundleNumber}
+use Rattle.answers.specs.declared.bundle.BundleOutcome.{BundleOutcome}
+use Rattle.answers.specs.declared.bundle.BundleOutcome.the-variants.{Taken, BundleMalformed, ResultTooShort}
+use Rattle.bundle.specs.Bundle.{mostSheets, sheetCount, cellsPerSheet, sheetOf}
+use Rattle.bundle.specs.Whole.{roomy, bundleOutcome}
+use Rattle.bundle.proofs.LawBundle.{taken-room, taken-right, sheets-few, exact-room, shown-room, run-inside}
+use Rattle.desk.specs.Lent.{lent}
+use Rattle.desk.specs.Table.{answerOf}
+use Rattle.desk.specs.Works.{Results, runOf, AsAlone, FirstSheets, SheetBySheet, BundleDeclared}
+use Rattle.desk.proofs.LawWorks.{run-size, outcome-cell}
+use Rattle.report.specs.Report.{refusalText, reportFor}
+use Rattle.report.specs.Bundle.{sheetLine, sheetReport, sheetsText, roomLent, bundleReportFor, bundleReportOf, mostSheetText, mostBundleText}
+use Rattle.report.specs.Inner.{mostRefusal, Puts, answerText, sheetText, sheetTexts, SheetsTellable}
+use Rattle.report.proofs.LawPut.{nothing, then, more}
+use Rattle.report.proofs.LawTold.{told-few, told-is}
+
+-- ---- one sheet after another
+
+module _ (bundle : List ℕ) (after : Results) where
+  pub sheets-start : (text : List ℕ) → Puts (sheetTexts bundle after 0) (mostSheetText * 0) 0 text 0 text
+  unfolding sheetTexts
+  sheets-start text = nothing 0 text
+
+  pub sheets-step : (i : ℕ) {next r : ℕ} {text between text' : List ℕ} → Puts (sheetTexts bundle after i) (mostSheetText * i) 0 text next between
+      → Puts (sheetText bundle after i) mostSheetText next between r text'
+      → Puts (sheetTexts bundle after (i + 1)) (mostSheetText * (i + 1)) 0 text r text'
+  unfolding sheetTexts
+  sheets-step i p q = rw (add-one i, mul-suc) (then p q)
+
+  pub sheets-done : (i n : ℕ) {r : ℕ} {text text' : List ℕ} → i ≡ n → n ≤ mostSheets → Puts (sheetTexts bundle after i) (mostSheetText * i) 0 text r text'
+      → Puts (sheetTexts bundle after n) mostBundleText 0 text r text'
+  sheets-done i n e few p = more (rw e at p) (omega (arith, mul-le-mul-left mostSheetText few))
+
+-- ---- what the desk left
+
+module _ (book bundle : List ℕ) (before after : Results) (room : roomy bundle (length (before .exact)) (length (before .shown)) (length (before .outcomes)) ≡ true) where
+  module _ (i : ℕ) (h : i < sheetCount bundle) (alone : AsAlone book bundle before after i) where
+    runs-room : min (length (runOf bundle i (before .exact))) (length (runOf bundle i (before .shown))) ≡ cellsPerSheet bundle
+    runs-room =
+        let c = cellsPerSheet bundle in
+        let inside = run-inside bundle i h in
+        let e = run-size (i * c) c (before .exact) (omega (arith, inside, exact-room bundle _ _ _ room)) in
+        let s = run-size (i * c) c (before .shown) (omega (arith, inside, shown-room bundle _ _ _ room)) in
+        omega (arith, e, s)
+
+    sheet-told : answerText (cell (after .outcomes) i) (sheetOf bundle i) (runOf bundle i (after .exact)) (runOf bundle i (after .shown))
+        ≡ sheetReport book bundle i
+    sheet-told =
+        let answer : alone .answer ≡ answerOf (lent book (sheetOf bundle i)) (cellsPerSheet bundle) = rw runs-room at (alone .declared .demand1 .answer) in
+        rw (outcome-cell book bundle before after i alone, ← answer) (told-is _ _ _ _ _ _ (alone .declared))
+
+  sheets-told : (n : ℕ) → n ≤ sheetCount bundle → ((i : ℕ) → i < n → AsAlone book bundle before after i)
+      → sheetTexts bundle after n ≡ sheetsText book bundle n
+  unfolding sheetTexts sheetsText
+  sheets-told zero h alone = refl
+  sheets-told (suc n) h alone =
+      rw (sheets-told n (omega arith) (λ i l. alone i (omega arith)), sheet-told n h (alone n (omega arith))) refl
+
+  -- what telling them asks
+  pub tellable : SheetBySheet book bundle before after → sheetCount bundle ≤ mostSheets → length (after .exact) ≡ length (before .exact)
+      → length (after .shown) ≡ length (before .shown) → length (after .outcomes) ≡ length (before .outcomes) → SheetsTellable bundle after
+  tellable done few exact-size shown-size outcomes-size =
+      record {
+        few = few;
+        room = rw (exact-size, shown-size, outcomes-size) room;
+        lines = λ i h z.
+            let alone = done .sheets i h in
+            told-few _ _ _ _ _ _ (alone .declared) (sym (outcome-cell book bundle before after i alone) ∙ z);
+      }
+
+  pub taken-told : SheetBySheet book bundle before after → sheetTexts bundle after (sheetCount bundle) ≡ sheetsText book bundle (sheetCount bundle)
+  taken-told done = sheets-told (sheetCount bundle) (omega arith) (done .sheets)
+
+-- ---- the whole
+
+pub whole-taken : (book bundle : List ℕ) {r : ℕ} {text text' : List ℕ} → bundleOutcome bundle roomLent roomLent mostSheets ≡ Taken
+    → Puts (sheetsText book bundle (sheetCount bundle)) mostBundleText 0 text r text' → Puts (bundleReportOf book bundle) mostBundleText 0 text r text'
+unfolding bundleReportOf bundleReportFor
+whole-taken book bundle e p = rw e p
+
+pub whole-refused : (book bundle : List ℕ) (o : BundleOutcome) {r : ℕ} {text text' : List ℕ} → o ≡ bundleOutcome bundle roomLent roomLent mostSheets
+    → o ≢ Taken → Puts (refusalText (bundleNumber o) 0) mostRefusal 0 text r text' → Puts (bundleReportOf book bundle) mostBundleText 0 text r text'
+unfolding bundleReportOf bundleReportFor
+whole-refused book bundle Taken e refused p = absurd (refused refl)
+whole-refused book bundle BundleMalformed e refused p = rw (← e) (more p (omega arith))
+whole-refused book bundle ResultTooShort e refused p = rw (← e) (more p (omega arith))

@@ -1,0 +1,16 @@
+-- A word, a number and the line end, each where the one before it ends.
+use borrow.Author.Needs.{needs}
+use Rattle.report.specs.Bundle.{sheetLine}
+use Rattle.report.proofs.LawPut.{then}
+use Rattle.report.proofs.sheets.sheet_line.Statement.{statement}
+use Rattle.report.proofs.sheets.sheet_line.Tie as tie
+
+returns : tie.Need-returns
+unfolding sheetLine
+returns c = then (then (c .before .before .before .before .before .before .before .before .before .before .before .put .ensures) (c .before .before .before .before .before .before .before .number .ensures)) (c .before .before .put2 .ensures)
+
+pub sheet-line-spec : {M : Type 1} → statement M
+sheet-line-spec =
+    tie.close
+    (tie.spec (λ c. search needs) (λ c κs. search needs) (λ c. search needs) (λ c κs. search needs) (λ c. search needs) (λ c κs. search needs)
+    (λ c. search needs) returns)

@@ -1,20 +1,24 @@
-// The desk as a program: it reads `book.bin` and `sheet.bin` in the folder it is started in, and prints the report of the sheet.
+// The desk as a program: in the folder it is started in it reads `book.bin`, and `bundle.bin` where that is there, else `sheet.bin`, and
+// prints the report.
 ghost use mathlib.Core.Path.{_≡_};
 ghost use Prim.Native.Nat.{_≤_};
 ghost use lib.ListN.{length, take};
 ghost use Rattle.desk.specs.Lent.{lent};
 ghost use Rattle.report.specs.Report.{mostText, reportOf};
+ghost use Rattle.report.specs.Bundle.{mostBundleText, bundleReportOf};
 use headers::house::MOST_BYTES;
+use libc::ENOENT;
 use libc::STDERR_FILENO;
 use libc::STDOUT_FILENO;
 use little::part::part;
+use report::MOST_BUNDLE_TEXT;
 use report::MOST_TEXT;
 use report::Written;
 use report::report;
+use report::report_bundle;
 
-// A file that is not there counts as empty.
-fn load(name: &[u8], room: &mut [u8]) -> usize {
-    let file = os::open_read(name);
+// A file that could not be opened counts as empty.
+fn load_open(file: i32, room: &mut [u8]) -> usize {
     if file < 0 {
         return 0;
     }
@@ -23,12 +27,36 @@ fn load(name: &[u8], room: &mut [u8]) -> usize {
     bytes
 }
 
+fn load(name: &[u8], room: &mut [u8]) -> usize {
+    load_open(os::open_read(name), room)
+}
+
+// Just after the file could not be opened.
+fn is_missing(file: i32) -> bool {
+    if file < 0 {
+        os::errno() == ENOENT
+    } else {
+        false
+    }
+}
+
 // The bytes of the report, which a text of that size always has room for.
 fn whole_report(book: &[u8], sheet: &[u8], text: &mut [u8]) -> usize
     requires { ⌜ mostText ≤ length (now text) ⌝ }
     ensures { λ r. ⌜ take r (now (text .exit)) ≡ reportOf (lent (now (book .entry)) (now (sheet .entry))) ⌝ }
 {
     match report(book, sheet, text) {
+        Written::Bytes(bytes) => bytes,
+        Written::Short => 0,
+    }
+}
+
+// Likewise for a bundle.
+fn whole_bundle_report(book: &[u8], bundle: &[u8], text: &mut [u8]) -> usize
+    requires { ⌜ mostBundleText ≤ length (now text) ⌝ }
+    ensures { λ r. ⌜ take r (now (text .exit)) ≡ bundleReportOf (now (book .entry)) (now (bundle .entry)) ⌝ }
+{
+    match report_bundle(book, bundle, text) {
         Written::Bytes(bytes) => bytes,
         Written::Short => 0,
     }
@@ -45,17 +73,31 @@ fn print(text: &[u8]) {
     );
 }
 
-// One byte more than the limit is read, so that a longer file is refused and not cut.
-fn main() {
-    let mut book = [0u8; MOST_BYTES + 1];
+// Here and below one byte more than the limit is read, so that a longer file is refused and not cut.
+fn print_sheet(book: &[u8]) {
     let mut sheet = [0u8; MOST_BYTES + 1];
-    let book_bytes = load(b"book.bin", &mut book);
     let sheet_bytes = load(b"sheet.bin", &mut sheet);
     let mut text = [0u8; MOST_TEXT];
-    let bytes = whole_report(
-        part(&book, 0, book_bytes),
-        part(&sheet, 0, sheet_bytes),
-        &mut text,
-    );
+    let bytes = whole_report(book, part(&sheet, 0, sheet_bytes), &mut text);
     print(part(&text, 0, bytes));
+}
+
+fn print_bundle(book: &[u8], file: i32) {
+    let mut bundle = [0u8; MOST_BYTES + 1];
+    let bundle_bytes = load_open(file, &mut bundle);
+    let mut text = [0u8; MOST_BUNDLE_TEXT];
+    let bytes = whole_bundle_report(book, part(&bundle, 0, bundle_bytes), &mut text);
+    print(part(&text, 0, bytes));
+}
+
+// A bundle that is there but cannot be read is refused as an empty one: the folder's sheet must not be declared in its place.
+fn main() {
+    let mut book = [0u8; MOST_BYTES + 1];
+    let book_bytes = load(b"book.bin", &mut book);
+    let file = os::open_read(b"bundle.bin");
+    if is_missing(file) {
+        print_sheet(part(&book, 0, book_bytes));
+    } else {
+        print_bundle(part(&book, 0, book_bytes), file);
+    }
 }

@@ -8,7 +8,7 @@ use lib.ListN.{length}
 use borrow.Author.Tests.{lt-leb}
 use Rattle.desk.specs.Lent.{Lent}
 use Rattle.report.specs.Report.{reportOf, mostText, writtenOf}
-use Rattle.report.proofs.LawReported.{reported-once, written-all}
+use Rattle.report.proofs.LawReported.{wrote-once, written-all}
 use Rattle.answers.specs.Answer.{numberUnit}
 use Rattle.checkraven_c.specs.TextCode.{writtenCode, written, Reports}
 
@@ -31,4 +31,4 @@ module _ (f : Lent) (text : List ℕ) (r : ℕ) (text' : List ℕ) (p : Reports 
 
 pub reports-once : (f : Lent) (text : List ℕ) (r q : ℕ) (x y : List ℕ) → Reports f text r x → Reports f text q y → (r ≡ q) × (x ≡ y)
 reports-once f text r q x y p h =
-    (p .answer ∙ sym (h .answer), reported-once f text (written f text) (written f text) x y (p .reported) (h .reported) .1)
+    (p .answer ∙ sym (h .answer), wrote-once (reportOf f) mostText text (written f text) (written f text) x y (p .reported) (h .reported) .1)

@@ -8,4 +8,5 @@ fn main() {
     worked::scalings();
     worked::lines();
     runs::runs();
+    runs::bundle_runs();
 }

@@ -1,10 +1,13 @@
-// The desk over the folders of data/: each has a book and a sheet, and the listing that `make-files` made both from, or what was changed.
+// The desk over the folders of data/: each has a book and a sheet or a bundle, and the listing that `make-files` made both from, or what was
+// changed.
 use super::print::say;
 use headers::house::MOST_BYTES;
 use little::part::part;
+use report::MOST_BUNDLE_TEXT;
 use report::MOST_TEXT;
 use report::Written;
 use report::report;
+use report::report_bundle;
 
 fn answer(book: &[u8], sheet: &[u8]) {
     let mut text = [0u8; MOST_TEXT];
@@ -13,20 +16,45 @@ fn answer(book: &[u8], sheet: &[u8]) {
     }
 }
 
-// Prints the folder's sheet by its path, and what the desk answers. A file that is not there is read as no bytes.
+fn answer_bundle(book: &[u8], bundle: &[u8]) {
+    let mut text = [0u8; MOST_BUNDLE_TEXT];
+    if let Written::Bytes(bytes) = report_bundle(book, bundle, &mut text) {
+        say(part(&text, 0, bytes));
+    }
+}
+
+// A file that is not there is read as no bytes.
+fn load(path: &[u8], room: &mut [u8]) -> usize {
+    let file = os::open_read(path);
+    let bytes = io::read_full(file, room);
+    libc::close(file);
+    bytes
+}
+
+fn name(path: &[u8]) {
+    say(b"run ");
+    say(path);
+    say(b"\n");
+}
+
+// Prints the folder's sheet by its path, and what the desk answers.
 fn run(book_path: &[u8], sheet_path: &[u8]) {
     let mut book = [0u8; MOST_BYTES];
     let mut sheet = [0u8; MOST_BYTES];
-    let book_file = os::open_read(book_path);
-    let sheet_file = os::open_read(sheet_path);
-    let book_bytes = io::read_full(book_file, &mut book);
-    let sheet_bytes = io::read_full(sheet_file, &mut sheet);
-    libc::close(book_file);
-    libc::close(sheet_file);
-    say(b"run ");
-    say(sheet_path);
-    say(b"\n");
-    answer(&book[..book_bytes], &sheet[..sheet_bytes]);
+    let book_bytes = load(book_path, &mut book);
+    let sheet_bytes = load(sheet_path, &mut sheet);
+    name(sheet_path);
+    answer(part(&book, 0, book_bytes), part(&sheet, 0, sheet_bytes));
+}
+
+// Likewise its bundle.
+fn run_bundle(book_path: &[u8], bundle_path: &[u8]) {
+    let mut book = [0u8; MOST_BYTES];
+    let mut bundle = [0u8; MOST_BYTES];
+    let book_bytes = load(book_path, &mut book);
+    let bundle_bytes = load(bundle_path, &mut bundle);
+    name(bundle_path);
+    answer_bundle(part(&book, 0, book_bytes), part(&bundle, 0, bundle_bytes));
 }
 
 pub(crate) fn runs() {
@@ -38,4 +66,16 @@ pub(crate) fn runs() {
     run(b"over-hours/book.bin", b"over-hours/sheet.bin");
     run(b"over-kilograms/book.bin", b"over-kilograms/sheet.bin");
     run(b"over-production/book.bin", b"over-production/sheet.bin");
+}
+
+pub(crate) fn bundle_runs() {
+    run_bundle(b"bundle-works/book.bin", b"bundle-works/bundle.bin");
+    run_bundle(b"bundle-none/book.bin", b"bundle-none/bundle.bin");
+    run_bundle(b"bundle-short-run/book.bin", b"bundle-short-run/bundle.bin");
+    run_bundle(b"bundle-no-book/book.bin", b"bundle-no-book/bundle.bin");
+    run_bundle(b"bundle-over-room/book.bin", b"bundle-over-room/bundle.bin");
+    run_bundle(
+        b"bundle-overlapping/book.bin",
+        b"bundle-overlapping/bundle.bin",
+    );
 }

@@ -6,13 +6,13 @@ use Rattle.checkraven.proofs.whole_report.Statement.{statement}
 use Rattle.checkraven.proofs.whole_report.Tie as tie
 
 returns : tie.Need-returns
-returns c = bytes-are _ _ _ _ (rw (c .before .bytes .given .1) at (c .before .before .before .before .before .report .ensures))
+returns c = bytes-are _ _ _ _ _ (rw (c .before .bytes .given .1) at (c .before .before .before .before .before .report .ensures))
 
 returns-2 : tie.Need-returns-2
 returns-2 c =
     let report = c .before .before .before .before .report in
     let asked = c .before .before .before .before .before .before .before .before .before .pre in
-    clash (cc (always-room _ _ _ _ (report .ensures) (asked)))
+    clash (cc (always-room _ _ _ _ _ (report .ensures) (asked)))
 
 pub whole-report-spec : {M : Type 1} → statement M
 whole-report-spec =

@@ -1,6 +1,6 @@
 //! The paper's own figures, on both desks.
 
-use peer::compare::{run_proved, Case, Tally};
+use peer::compare::{run_proved, BundleCase, Case, Tally};
 use peer::make::{Book, Line, Row, Sheet, Technique};
 use peer::print::whole_output;
 use std::fs;
@@ -232,29 +232,54 @@ fn shares_by_divisors_of_every_length() {
     }
 }
 
-/// What `over-hours` and `over-kilograms` change in the sheet of `limits`:
-/// where, and the bytes. `make-files` writes no such lines.
-fn changes(folder: &str) -> Option<(usize, Vec<u8>)> {
+/// One file of another folder with other bytes in it, as `make-files` writes
+/// no such lines, bundles or books.
+struct Change {
+    of: &'static str,
+    file: &'static str,
+    at: usize,
+    bytes: Vec<u8>,
+}
+
+fn change(folder: &str) -> Option<Change> {
     let hours = 8784.001f64.to_le_bytes();
+    let change = |of, file, at, bytes| Some(Change { of, file, at, bytes });
     match folder {
-        "over-hours" => Some((16 + 32, [hours, hours].concat())),
-        "over-kilograms" => Some((16 + 64 + 16, 1_000_000_001u64.to_le_bytes().to_vec())),
+        "over-hours" => change("limits", "sheet.bin", 16 + 32, [hours, hours].concat()),
+        "over-kilograms" => {
+            let kilograms = 1_000_000_001u64.to_le_bytes();
+            change("limits", "sheet.bin", 16 + 64 + 16, kilograms.to_vec())
+        }
+        // The first sheet, of one line, ends at 108.
+        "bundle-overlapping" => {
+            change("bundle-short-run", "bundle.bin", 12 + 8, 107u32.to_le_bytes().to_vec())
+        }
+        // A book of one row and one technique has 44 bytes.
+        "bundle-bad-book" => {
+            change("bundle-short-run", "book.bin", 0, 45u32.to_le_bytes().to_vec())
+        }
         _ => None,
     }
 }
 
-/// The folder's files are those of its listing, or of `limits` with its change.
+/// The folder's files are those of its listing, or of another folder with its
+/// change.
 fn is_up_to_date(top: &Path, folder: &Path) -> bool {
     let name = folder.file_name().and_then(|name| name.to_str()).expect("a folder has a name");
-    let Some((at, bytes)) = changes(name) else {
+    let Some(change) = change(name) else {
         let mut make = Command::new(top.join("make-files"));
         return make.arg("--check").arg(folder).status().expect("make-files runs").success();
     };
-    let limits = folder.with_file_name("limits");
-    let read = |folder: &Path, file| fs::read(folder.join(file)).expect("a folder has both files");
-    let mut sheet = read(&limits, "sheet.bin");
-    sheet[at..at + bytes.len()].copy_from_slice(&bytes);
-    read(folder, "sheet.bin") == sheet && read(folder, "book.bin") == read(&limits, "book.bin")
+    let original = folder.with_file_name(change.of);
+    let read = |folder: &Path, file: &str| fs::read(folder.join(file)).ok();
+    let changed = |file: &str| {
+        let mut bytes = read(&original, file);
+        if let Some(whole) = bytes.as_mut().filter(|_| file == change.file) {
+            whole[change.at..change.at + change.bytes.len()].copy_from_slice(&change.bytes);
+        }
+        bytes
+    };
+    ["book.bin", "sheet.bin", "bundle.bin"].iter().all(|file| read(folder, file) == changed(file))
 }
 
 /// The folders that the proved program `figures` runs over are what their
@@ -267,6 +292,10 @@ fn the_folders_of_the_figures() {
     for folder in data.read_dir().expect("the folders are there").flatten() {
         let folder = folder.path();
         assert!(is_up_to_date(&top, &folder), "stale files in {}", folder.display());
-        tally.agree(&Case::read(&folder).expect("a folder has both files"));
+        if folder.join("bundle.bin").exists() {
+            tally.agree(&BundleCase::read(&folder).expect("a folder has both files"));
+        } else {
+            tally.agree(&Case::read(&folder).expect("a folder has both files"));
+        }
     }
 }

@@ -1,5 +1,5 @@
-// The desk over the folders of data/: each has a book and a sheet or a bundle, and the listing that `make-files` made both from, or what was
-// changed.
+// The desk over the folders of data/: each has a book and a sheet or a bundle, and the listing that `make-files` made both from, or what
+// was changed.
 use super::print::say;
 use headers::house::MOST_BYTES;
 use little::part::part;
@@ -72,7 +72,7 @@ pub(crate) fn bundle_runs() {
     run_bundle(b"bundle-works/book.bin", b"bundle-works/bundle.bin");
     run_bundle(b"bundle-none/book.bin", b"bundle-none/bundle.bin");
     run_bundle(b"bundle-short-run/book.bin", b"bundle-short-run/bundle.bin");
-    run_bundle(b"bundle-no-book/book.bin", b"bundle-no-book/bundle.bin");
+    run_bundle(b"bundle-bad-book/book.bin", b"bundle-bad-book/bundle.bin");
     run_bundle(b"bundle-over-room/book.bin", b"bundle-over-room/bundle.bin");
     run_bundle(
         b"bundle-overlapping/book.bin",

@@ -8,7 +8,8 @@ use native.Mathlib.Nat.{mul-suc, mul-le-mul-left}
 use native.Mathlib.Numerals.{add-one}
 use native.Mathlib.Omega.{arith}
 use lib.ListN.{length}
-use Rattle.search.proofs.LawTest.{clash}
+use borrow.Author.Tests.{le-leb}
+use Rattle.search.proofs.LawTest.{either-way}
 use Rattle.settle.specs.Shown.{at as cell}
 use Rattle.headers.specs.Sheet.{lineCount, mostLines}
 use Rattle.answers.specs.Answer.{codeOf}
@@ -18,11 +19,14 @@ use Rattle.answers.specs.declared.bundle.BundleOutcome.the-variants.{Taken, Bun
 use Rattle.bundle.specs.Bundle.{mostSheets, sheetCount, cellsPerSheet, sheetOf}
 use Rattle.bundle.specs.Whole.{roomy, bundleOutcome}
 use Rattle.bundle.proofs.LawBundle.{taken-room, taken-right, sheets-few, exact-room, shown-room, run-inside}
-use Rattle.desk.specs.Lent.{lent}
-use Rattle.desk.specs.Table.{answerOf}
+use Rattle.desk.specs.Lent.{Lent, lent}
+use Rattle.desk.specs.Cells.{tableSize}
+use Rattle.desk.specs.Sheet.{sheetOk}
+use Rattle.desk.specs.Table.{bySheet, byFiles, answerOf}
 use Rattle.desk.specs.Works.{Results, runOf, AsAlone, FirstSheets, SheetBySheet, BundleDeclared}
+use Rattle.desk.proofs.LawTable.{lines-few}
 use Rattle.desk.proofs.LawWorks.{run-size, outcome-cell}
-use Rattle.report.specs.Report.{refusalText, reportFor}
+use Rattle.report.specs.Report.{refusalText, mostCells, reportOf}
 use Rattle.report.specs.Bundle.{sheetLine, sheetReport, sheetsText, roomLent, bundleReportFor, bundleReportOf, mostSheetText, mostBundleText}
 use Rattle.report.specs.Inner.{mostRefusal, Puts, answerText, sheetText, sheetTexts, SheetsTellable}
 use Rattle.report.proofs.LawPut.{nothing, then, more}
@@ -84,6 +88,26 @@ module _ (book bundle : List ℕ) (before after : Results) (room : roomy bundle 
 
   pub taken-told : SheetBySheet book bundle before after → sheetTexts bundle after (sheetCount bundle) ≡ sheetsText book bundle (sheetCount bundle)
   taken-told done = sheets-told (sheetCount bundle) (omega arith) (done .sheets)
+
+-- ---- a run with room for the sheet's tables
+
+-- then its report is what is printed for the sheet alone
+module _ (f : Lent) (room : ℕ) (fits : tableSize (lineCount (f .sheet)) ≤ room) where
+  sheet-same : bySheet (f .sheet) room ≡ bySheet (f .sheet) mostCells
+  sheet-same =
+      either-way (sheetOk (f .sheet))
+      (λ p. let most : tableSize (lineCount (f .sheet)) ≤ mostCells = omega (arith, lines-few (f .sheet) p) in
+      rw (p, le-leb (tableSize (lineCount (f .sheet))) room fits, le-leb (tableSize (lineCount (f .sheet))) mostCells most) refl)
+      (λ p. rw p refl)
+
+  pub same-answer : answerOf f room ≡ answerOf f mostCells
+  unfolding answerOf byFiles
+  same-answer = rw sheet-same refl
+
+pub as-printed-alone : (book bundle : List ℕ) (i : ℕ) → tableSize (lineCount (sheetOf bundle i)) ≤ cellsPerSheet bundle
+    → sheetReport book bundle i ≡ reportOf (lent book (sheetOf bundle i))
+unfolding reportOf
+as-printed-alone book bundle i fits = rw (same-answer (lent book (sheetOf bundle i)) (cellsPerSheet bundle) fits) refl
 
 -- ---- the whole
 

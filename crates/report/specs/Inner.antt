@@ -48,11 +48,15 @@ pub record Finished (end : ℕ) (text : List ℕ) (r : Written) (text' : List �
   pub all : end ≤ length text → text' ≡ text
   pub none : length text < end → text' ≡ replicate (length text) 0
 
--- an answer by its code, and the results that the desk left: the tables are their first cells; or the refusal's number and line
+-- the cells of a result that are the sheet's table
+abbrev pub tableIn : (sheet cells : List ℕ) → List ℕ
+tableIn sheet cells = take (tableSize (lineCount sheet)) cells
+
+-- an answer by its code, and the results that the desk left: figures, or the refusal's number and line
 unfoldable pub answerText : (code : ℕ) (sheet exact shown : List ℕ) → List ℕ
 answerText code sheet exact shown =
     cond (eqb code 0)
-    (figuresText (lineCount sheet) (unitOfSheet sheet) (take (tableSize (lineCount sheet)) exact) (take (tableSize (lineCount sheet)) shown))
+    (figuresText (lineCount sheet) (unitOfSheet sheet) (tableIn sheet exact) (tableIn sheet shown))
     (refusalText (code / numberUnit) (code % numberUnit))
 
 -- what telling an answer asks: figures are of at most so many lines as a good sheet has

@@ -11,19 +11,25 @@ each-sheet-requires c κs = taken-room _ _ _ _ (sym (c .before .before .before .
 
 returns : tie.Need-returns
 returns c =
+    let told = c .before .before .before .before .before .before .before .before .before .before .enum-told .given .1 in
     record {
       answer = c .before .before .before .before .before .before .before .before .before .before .before .before .bundle-outcome .ensures;
       taken = λ _. c .before .before .before .before .before .before .each-sheet .ensures;
-      refused = λ no. absurd (no (c .before .before .before .before .before .before .before .before .before .before .enum-told .given .1));
+      refused = λ no. absurd (no told);
     }
 
 returns-2 : tie.Need-returns-2
 returns-2 c =
-    let no = not-taken (c .before .before .before .before .before .before .before .before .before .before .before .before .before .bundle-outcome .result) (c .before .before .before .before .before .before .before .before .before .before .before .before .match .keys2) in
+    let whole = c .before .before .before .before .before .before .before .before .before .before .before .before .before .bundle-outcome in
+    let keys = c .before .before .before .before .before .before .before .before .before .before .before .before .match .keys2 in
+    let no = not-taken (whole .result) keys in
+    let exact = c .before .before .before .before .before .before .before .before .before .before .clear .ensures in
+    let shown = c .before .before .before .before .before .before .clear2 .ensures in
+    let outcomes = c .before .before .clear3 .ensures in
     record {
-      answer = c .before .before .before .before .before .before .before .before .before .before .before .before .before .bundle-outcome .ensures;
+      answer = whole .ensures;
       taken = λ yes. absurd (no yes);
-      refused = λ _. record { exact = c .before .before .before .before .before .before .before .before .before .before .clear .ensures; shown = c .before .before .before .before .before .before .clear2 .ensures; outcomes = c .before .before .clear3 .ensures };
+      refused = λ _. record { exact = exact; shown = shown; outcomes = outcomes };
     }
 
 pub declare-bundle-spec : {M : Type 1} → statement M

@@ -28,12 +28,15 @@ part-declare-told-end-2 c = omega (arith, rw (← c .before .before .cells-per-s
 
 returns : tie.Need-returns
 returns c =
-    let i = c .before .before .before .before .before .before .before .before .before .before .before .before .before .args .i in
+    let entry = c .before .before .before .before .before .before .before .before .before .before .before .before .before in
+    let i = entry .args .i in
     let cells = c .before .before .before .before .before .before .before .before .cells-per-sheet .result in
     let size : i * cells + cells - i * cells ≡ cells = omega arith in
     let cells-are = c .before .before .before .before .before .before .before .before .cells-per-sheet .ensures .eq in
-    sheet-done (now (c .before .before .before .before .before .before .before .before .before .before .before .before .before .args .book)) (now (c .before .before .before .before .before .before .before .before .before .before .before .before .before .args .bundle)) i (now (c .before .before .before .before .before .before .before .before .before .before .before .before .before .args .exact)) (now (c .before .before .before .before .before .before .before .before .before .before .before .before .before .args .shown)) (c .before .before .before .before .before .before .before .sheet-of .ensures) (ap (λ (n : ℕ). i * n) cells-are) (size ∙ cells-are) (c .before .before .before .before .before .before .before .before .before .before .before .before .before .pre .exactRun)
-    (c .before .before .before .before .before .before .before .before .before .before .before .before .before .pre .shownRun) (c .before .before .before .before .declare-told .ensures) (c .before .before .before .exact .given .0) (c .before .shown .given .0)
+    let from-is = ap (λ (n : ℕ). i * n) cells-are in
+    sheet-done (now (entry .args .book)) (now (entry .args .bundle)) i (now (entry .args .exact)) (now (entry .args .shown))
+    (c .before .before .before .before .before .before .before .sheet-of .ensures) from-is (size ∙ cells-are) (entry .pre .exactRun) (entry .pre .shownRun)
+    (c .before .before .before .before .declare-told .ensures) (c .before .before .before .exact .given .0) (c .before .shown .given .0)
 
 pub declare-sheet-spec : {M : Type 1} → statement M
 declare-sheet-spec =

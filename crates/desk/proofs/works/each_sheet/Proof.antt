@@ -28,38 +28,58 @@ loop-holds c = (search needs, search needs, search needs, search needs, first-no
 
 declare-sheet-requires : tie.Need-declare-sheet-requires Inv-loop μ-loop
 declare-sheet-requires c κs =
-    let inside = run-inside (now (c .before .before .before .before .before .before .before .before .before .before .before .args .bundle)) (c .before .before .before .loop .i) (omega (arith, c .before .before .loop-test .taken, c .before .before .before .before .sheet-count .ensures .eq)) in
+    let entry = c .before .before .before .before .before .before .before .before .before .before .before in
+    let loop = c .before .before .before .loop in
+    let below = c .before .before .loop-test .taken in
+    let inside = run-inside (now (entry .args .bundle)) (loop .i) (omega (arith, below, c .before .before .before .before .sheet-count .ensures .eq)) in
     record {
       told = c .before .before .before .before .before .book-ok .ensures;
-      exactRun = omega (arith, inside, exact-room _ _ _ _ (c .before .before .before .before .before .before .before .before .before .before .before .pre), c .before .before .before .loop .inv .1);
-      shownRun = omega (arith, inside, shown-room _ _ _ _ (c .before .before .before .before .before .before .before .before .before .before .before .pre), c .before .before .before .loop .inv .2);
+      exactRun = omega (arith, inside, exact-room _ _ _ _ (entry .pre), loop .inv .1);
+      shownRun = omega (arith, inside, shown-room _ _ _ _ (entry .pre), loop .inv .2);
     }
 
 slice-write-outcomes : tie.Need-slice-write-outcomes Inv-loop μ-loop
-slice-write-outcomes c = omega (arith, outcomes-room _ _ _ _ (c .before .before .before .before .before .before .before .before .before .before .before .before .before .before .before .before .before .pre), c .before .before .before .before .before .before .before .before .before .loop .inv .3, c .before .before .before .before .before .before .before .before .loop-test .taken, c .before .before .before .before .before .before .before .before .before .before .sheet-count .ensures .eq)
+slice-write-outcomes c =
+    let loop = c .before .before .before .before .before .before .before .before .before .loop in
+    let count = c .before .before .before .before .before .before .before .before .before .before .sheet-count .ensures .eq in
+    let below = c .before .before .before .before .before .before .before .before .loop-test .taken in
+    let room = outcomes-room _ _ _ _ (c .before .before .before .before .before .before .before .before .before .before .before .before .before .before .before .before .before .pre) in
+    omega (arith, room, loop .inv .3, below, count)
 
 mul-outcomes : tie.Need-mul-outcomes Inv-loop μ-loop
-mul-outcomes c = omega (arith, outcomes-room _ _ _ _ (c .before .before .before .before .before .before .before .before .before .before .before .before .before .before .before .before .before .pre), c .before .before .before .before .before .before .before .before .before .loop .inv .3, c .before .before .before .before .before .before .before .before .loop-test .taken, c .before .before .before .before .before .before .before .before .before .before .sheet-count .ensures .eq)
+mul-outcomes c =
+    let loop = c .before .before .before .before .before .before .before .before .before .loop in
+    let count = c .before .before .before .before .before .before .before .before .before .before .sheet-count .ensures .eq in
+    let below = c .before .before .before .before .before .before .before .before .loop-test .taken in
+    let room = outcomes-room _ _ _ _ (c .before .before .before .before .before .before .before .before .before .before .before .before .before .before .before .before .before .pre) in
+    omega (arith, room, loop .inv .3, below, count)
 
 loop-again : tie.Need-loop-again Inv-loop μ-loop
 loop-again c =
-    let inside = run-inside (now (c .before .before .before .before .before .before .before .before .before .before .before .before .before .before .before .before .before .args .bundle)) (c .before .before .before .before .before .before .before .before .before .loop .i) (omega (arith, c .before .before .before .before .before .before .before .before .loop-test .taken, c .before .before .before .before .before .before .before .before .before .before .sheet-count .ensures .eq)) in (
+    let entry = c .before .before .before .before .before .before .before .before .before .before .before .before .before .before .before .before .before in
+    let loop = c .before .before .before .before .before .before .before .before .before .loop in
+    let count = c .before .before .before .before .before .before .before .before .before .before .sheet-count .ensures .eq in
+    let below = c .before .before .before .before .before .before .before .before .loop-test .taken in
+    let done = c .before .before .before .before .before .declare-sheet .ensures in
+    let inside = run-inside (now (entry .args .bundle)) (loop .i) (omega (arith, below, count)) in (
       search needs,
       search needs,
       search needs,
       search needs,
-      first-more _ _ _ (c .before .before .before .before .before .before .before .before .before .loop .i) (c .before .before .before .before .before .before .before .before .before .loop .inv .4) (c .before .before .before .before .before .declare-sheet .ensures) (c .code .ensures)
-          (omega (arith, outcomes-room _ _ _ _ (c .before .before .before .before .before .before .before .before .before .before .before .before .before .before .before .before .before .pre), c .before .before .before .before .before .before .before .before .before .loop .inv .3, c .before .before .before .before .before .before .before .before .loop-test .taken, c .before .before .before .before .before .before .before .before .before .before .sheet-count .ensures .eq))
-          (omega (arith, inside, exact-room _ _ _ _ (c .before .before .before .before .before .before .before .before .before .before .before .before .before .before .before .before .before .pre), c .before .before .before .before .before .before .before .before .before .loop .inv .1))
-          (omega (arith, inside, shown-room _ _ _ _ (c .before .before .before .before .before .before .before .before .before .before .before .before .before .before .before .before .before .pre), c .before .before .before .before .before .before .before .before .before .loop .inv .2))
+      first-more _ _ _ (loop .i) (loop .inv .4) done (c .code .ensures)
+          (omega (arith, outcomes-room _ _ _ _ (entry .pre), loop .inv .3, below, count))
+          (omega (arith, inside, exact-room _ _ _ _ (entry .pre), loop .inv .1))
+          (omega (arith, inside, shown-room _ _ _ _ (entry .pre), loop .inv .2))
           (search needs)
           (search needs),
     )
 
 returns : tie.Need-returns Inv-loop μ-loop
 returns c =
-    let all : c .before .loop .i ≡ sheetCount (now (c .before .before .before .before .before .before .before .before .before .args .bundle)) = omega (arith, c .loop-test .left, c .before .loop .inv .0, c .before .before .sheet-count .ensures .eq) in
-    rw all at (c .before .loop .inv .4)
+    let loop = c .before .loop in
+    let bundle = now (c .before .before .before .before .before .before .before .before .before .args .bundle) in
+    let all : loop .i ≡ sheetCount bundle = omega (arith, c .loop-test .left, loop .inv .0, c .before .before .sheet-count .ensures .eq) in
+    rw all at (loop .inv .4)
 
 pub each-sheet-spec : {M : Type 1} → statement M
 each-sheet-spec =

@@ -7,7 +7,10 @@ use Rattle.report.proofs.sheets.sheet_line.Tie as tie
 
 returns : tie.Need-returns
 unfolding sheetLine
-returns c = then (then (c .before .before .before .before .before .before .before .before .before .before .before .put .ensures) (c .before .before .before .before .before .before .before .number .ensures)) (c .before .before .put2 .ensures)
+returns c =
+    let word = c .before .before .before .before .before .before .before .before .before .before .before .put .ensures in
+    let numbered = c .before .before .before .before .before .before .before .number .ensures in
+    then (then word numbered) (c .before .before .put2 .ensures)
 
 pub sheet-line-spec : {M : Type 1} → statement M
 sheet-line-spec =

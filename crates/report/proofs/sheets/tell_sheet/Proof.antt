@@ -8,37 +8,46 @@ use Rattle.report.proofs.sheets.tell_sheet.Statement.{statement}
 use Rattle.report.proofs.sheets.tell_sheet.Tie as tie
 
 sheet-line-requires : tie.Need-sheet-line-requires
-sheet-line-requires c κs = (omega (arith, c .before .before .before .before .before .before .before .pre .one, c .before .before .before .before .before .before .before .pre .all .few), omega (arith, c .before .before .before .before .before .before .before .pre .within))
+sheet-line-requires c κs =
+    let asked = c .before .before .before .before .before .before .before .pre in
+    (omega (arith, asked .one, asked .all .few), omega (arith, asked .within))
 
 mul-tell : tie.Need-mul-tell
-mul-tell c = omega (arith, c .before .before .before .before .before .before .before .before .before .before .before .before .pre .one, c .before .before .before .before .before .before .before .before .before .before .before .before .pre .all .few)
+mul-tell c =
+    let asked = c .before .before .before .before .before .before .before .before .before .before .before .before .pre in
+    omega (arith, asked .one, asked .all .few)
 
 shared-slice-read-tell : tie.Need-shared-slice-read-tell
-shared-slice-read-tell c = omega (arith, c .before .before .before .before .before .before .before .before .before .before .before .before .before .pre .one, outcomes-room _ _ _ _ (c .before .before .before .before .before .before .before .before .before .before .before .before .before .pre .all .room))
+shared-slice-read-tell c =
+    let asked = c .before .before .before .before .before .before .before .before .before .before .before .before .before .pre in
+    omega (arith, asked .one, outcomes-room _ _ _ _ (asked .all .room))
 
 run-requires : tie.Need-run-requires
 run-requires c κs =
-    rw (c .before .before .before .before .before .before .before .cells-per-sheet .ensures .eq)
-    (omega (arith, run-inside (now (c .before .before .before .before .before .before .before .before .before .before .before .before .before .args .bundle)) _ (c .before .before .before .before .before .before .before .before .before .before .before .before .before .pre .one), exact-room _ _ _ _ (c .before .before .before .before .before .before .before .before .before .before .before .before .before .pre .all .room)))
+    let entry = c .before .before .before .before .before .before .before .before .before .before .before .before .before in
+    let inside = run-inside (now (entry .args .bundle)) _ (entry .pre .one) in
+    rw (c .before .before .before .before .before .before .before .cells-per-sheet .ensures .eq) (omega (arith, inside, exact-room _ _ _ _ (entry .pre .all .room)))
 
 run-requires-2 : tie.Need-run-requires-2
 run-requires-2 c κs =
-    rw (c .before .before .before .before .before .before .before .before .cells-per-sheet .ensures .eq)
-    (omega (arith, run-inside (now (c .before .before .before .before .before .before .before .before .before .before .before .before .before .before .args .bundle)) _ (c .before .before .before .before .before .before .before .before .before .before .before .before .before .before .pre .one), shown-room _ _ _ _ (c .before .before .before .before .before .before .before .before .before .before .before .before .before .before .pre .all .room)))
+    let entry = c .before .before .before .before .before .before .before .before .before .before .before .before .before .before in
+    let inside = run-inside (now (entry .args .bundle)) _ (entry .pre .one) in
+    rw (c .before .before .before .before .before .before .before .before .cells-per-sheet .ensures .eq) (omega (arith, inside, shown-room _ _ _ _ (entry .pre .all .room)))
 
 tell-requires : tie.Need-tell-requires
 tell-requires c κs =
+    let asked = c .before .before .before .before .before .before .before .before .before .before .before .before .before .before .before .pre in
     let line = c .before .before .before .before .before .before .before .sheet-line .ensures in
     rw (c .before .before .before .sheet-of .ensures)
-    (record {
-      few = c .before .before .before .before .before .before .before .before .before .before .before .before .before .before .before .pre .all .lines _ (c .before .before .before .before .before .before .before .before .before .before .before .before .before .before .before .pre .one);
-      within = omega (arith, c .before .before .before .before .before .before .before .before .before .before .before .before .before .before .before .pre .within, line .ends, line .few);
-    })
+    (record { few = asked .all .lines _ (asked .one); within = omega (arith, asked .within, line .ends, line .few) })
 
 returns : tie.Need-returns
 returns c =
-    let told = rw (c .before .before .before .before .before .before .sheet-of .ensures, c .before .before .before .before .run .ensures, c .before .before .before .run2 .ensures, c .before .before .before .before .before .before .before .before .before .before .before .before .cells-per-sheet .ensures .eq) at (c .before .before .tell .ensures) in
-    then (c .before .before .before .before .before .before .before .before .before .before .sheet-line .ensures) told
+    let cells = c .before .before .before .before .before .before .before .before .before .before .before .before .cells-per-sheet .ensures .eq in
+    let sheet = c .before .before .before .before .before .before .sheet-of .ensures in
+    let exact = c .before .before .before .before .run .ensures in
+    let shown = c .before .before .before .run2 .ensures in
+    then (c .before .before .before .before .before .before .before .before .before .before .sheet-line .ensures) (rw (sheet, exact, shown, cells) at (c .before .before .tell .ensures))
 
 pub tell-sheet-spec : {M : Type 1} → statement M
 tell-sheet-spec =

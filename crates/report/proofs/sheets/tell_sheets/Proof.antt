@@ -39,7 +39,10 @@ same-length : tie.Need-same-length Inv-loop μ-loop
 same-length c = ap length (c .before .loop .inv .1 .holds) ∙ length-laid _ _ _
 
 returns : tie.Need-returns Inv-loop μ-loop
-returns c = sheets-done _ _ _ _ (omega (arith, c .loop-test .left, c .before .loop .inv .0, c .before .before .sheet-count .ensures .eq)) (c .before .before .before .before .before .before .before .before .pre .few) (c .before .loop .inv .1)
+returns c =
+    let loop = c .before .loop in
+    let count = c .before .before .sheet-count .ensures .eq in
+    sheets-done _ _ _ _ (omega (arith, c .loop-test .left, loop .inv .0, count)) (c .before .before .before .before .before .before .before .before .pre .few) (loop .inv .1)
 
 pub tell-sheets-spec : {M : Type 1} → statement M
 tell-sheets-spec =

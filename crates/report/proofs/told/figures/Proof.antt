@@ -8,7 +8,11 @@ use Rattle.report.proofs.told.figures.Tie as tie
 
 returns : tie.Need-returns
 unfolding figuresText
-returns c = more (then (then (c .before .before .before .before .before .before .before .before .before .before .before .table .ensures) (c .before .before .before .before .before .before .before .unit-line .ensures)) (c .before .before .table2 .ensures)) (omega (arith, c .before .before .before .before .before .before .before .before .before .before .before .before .before .before .before .before .before .pre .0))
+returns c =
+    let exact = c .before .before .before .before .before .before .before .before .before .before .before .table .ensures in
+    let unit = c .before .before .before .before .before .before .before .unit-line .ensures in
+    let shown = c .before .before .table2 .ensures in
+    more (then (then exact unit) shown) (omega (arith, c .before .before .before .before .before .before .before .before .before .before .before .before .before .before .before .before .before .pre .0))
 
 pub figures-spec : {M : Type 1} → statement M
 figures-spec =

@@ -7,7 +7,12 @@ use Rattle.report.proofs.told.refusal.Tie as tie
 
 returns : tie.Need-returns
 unfolding refusalText
-returns c = then (then (then (then (c .before .before .before .before .before .before .before .before .before .before .before .before .before .before .before .before .before .before .before .before .put .ensures) (c .before .before .before .before .before .before .before .before .before .before .before .before .before .before .before .before .number .ensures)) (c .before .before .before .before .before .before .before .before .before .before .before .put2 .ensures)) (c .before .before .before .before .before .before .before .number2 .ensures)) (c .before .before .put3 .ensures)
+returns c =
+    let word = c .before .before .before .before .before .before .before .before .before .before .before .before .before .before .before .before .before .before .before .before .put .ensures in
+    let numbered = c .before .before .before .before .before .before .before .before .before .before .before .before .before .before .before .before .number .ensures in
+    let named = c .before .before .before .before .before .before .before .before .before .before .before .put2 .ensures in
+    let lined = c .before .before .before .before .before .before .before .number2 .ensures in
+    then (then (then (then word numbered) named) lined) (c .before .before .put3 .ensures)
 
 pub refusal-spec : {M : Type 1} → statement M
 refusal-spec =

@@ -9,13 +9,20 @@ use Rattle.report.proofs.told.tell.Statement.{statement}
 use Rattle.report.proofs.told.tell.Tie as tie
 
 figures-requires : tie.Need-figures-requires
-figures-requires c κs = (omega (arith, c .before .before .before .before .before .before .before .before .before .before .pre .few (c .before .before .before .before .before .if1 .taken), c .before .before .before .before .line-count .ensures .eq), c .before .before .before .before .before .before .before .before .before .before .pre .within)
+figures-requires c κs =
+    let asked = c .before .before .before .before .before .before .before .before .before .before .pre in
+    let accepted = c .before .before .before .before .before .if1 .taken in
+    (omega (arith, asked .few accepted, c .before .before .before .before .line-count .ensures .eq), asked .within)
 
 returns : tie.Need-returns
 unfolding answerText
 returns c =
-    let figures = rw (c .before .before .before .before .before .unit-of .ensures, c .before .before .before .before .first-cells .ensures, c .before .before .before .first-cells2 .ensures, c .before .before .before .before .before .before .before .line-count .ensures .eq) at (c .before .before .figures .ensures) in
-    rw (eq-eqb _ _ (c .before .before .before .before .before .before .before .before .if1 .taken)) figures
+    let accepted = c .before .before .before .before .before .before .before .before .if1 .taken in
+    let lines = c .before .before .before .before .before .before .before .line-count .ensures .eq in
+    let unit = c .before .before .before .before .before .unit-of .ensures in
+    let exact = c .before .before .before .before .first-cells .ensures in
+    let shown = c .before .before .before .first-cells2 .ensures in
+    rw (eq-eqb _ _ accepted) (rw (unit, exact, shown, lines) at (c .before .before .figures .ensures))
 
 returns-2 : tie.Need-returns-2
 unfolding answerText

@@ -45,25 +45,14 @@ fn the_small_bundle_is_taken() {
     tally.expect_sheets(&case(&small_bundle()), &[(0, 0); 3]);
 }
 
-#[test]
-fn every_other_value_of_every_byte_before_the_sheets() {
-    let mut tally = Tally::new("every_other_value_of_every_byte_before_the_sheets");
-    let places: Vec<usize> = (0..ENTRIES_END as usize).collect();
-    let turns: Vec<u8> = (1..=255).collect();
-    change_bytes(&mut tally, every_two(&places, &turns));
-}
-
-#[test]
-fn other_values_of_every_byte_of_the_sheets() {
-    let mut tally = Tally::new("other_values_of_every_byte_of_the_sheets");
-    let places: Vec<usize> = (ENTRIES_END as usize..small_bundle().bytes().len()).collect();
-    change_bytes(&mut tally, every_two(&places, &[1, 2, 16, 128, 255]));
-}
-
 /// The lent memory stays as it was for the bundle before its change.
-fn change_bytes(tally: &mut Tally, changes: Vec<(usize, u8)>) {
+#[test]
+fn every_other_value_of_every_byte() {
+    let mut tally = Tally::new("every_other_value_of_every_byte");
+    let places: Vec<usize> = (0..small_bundle().bytes().len()).collect();
+    let turns: Vec<u8> = (1..=255).collect();
     let mut case = case(&small_bundle());
-    for (at, turn) in thinned(changes) {
+    for (at, turn) in thinned(every_two(&places, &turns)) {
         case.bundle[at] ^= turn;
         tally.agree(&case);
         case.bundle[at] ^= turn;

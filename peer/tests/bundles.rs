@@ -217,25 +217,49 @@ fn runs_of_no_cells() {
     }
 }
 
+/// Two good sheets; then one of them malformed, without room in its run, or
+/// with a line that has no row.
+fn good_and_refused_sheets() -> Vec<Vec<Vec<u8>>> {
+    let mut malformed = sheet(1, 0);
+    malformed[6] = 9;
+    let mut no_row = sheet(1, 0);
+    no_row[16] ^= 1;
+    let second = [sheet(1, 0), malformed, sheet(3, 0), no_row, vec![]];
+    second.map(|second| vec![sheet(2, 0), second]).to_vec()
+}
+
 #[test]
-fn malformed_comes_before_room() {
-    let mut tally = Tally::new("malformed_comes_before_room");
-    let mut malformed = Bundle::of(12, &sheets(&[2, 1]));
-    malformed.zero = 1;
+fn the_second_sheets_are_refused_alone() {
+    let mut tally = Tally::new("the_second_sheets_are_refused_alone");
+    let answers = [ACCEPTED, (2, 0), (3, 0), (6, 1), (2, 0)];
+    for (sheets, answer) in good_and_refused_sheets().iter().zip(answers) {
+        let case = BundleCase::of(&book().bytes(), &Bundle::of(12, sheets));
+        tally.expect_sheets(&case, &[ACCEPTED, answer]);
+    }
+}
+
+#[test]
+fn malformed_comes_before_room_book_and_sheets() {
+    let mut tally = Tally::new("malformed_comes_before_room_book_and_sheets");
     let books = [book().bytes(), bad_book(), vec![]];
     let lent = [(0, 0, 0), (23, 24, 2), (24, 23, 2), (24, 24, 1), (99, 99, 9)];
-    for (book, (exact, shown, outcomes)) in every_two(&books, &lent) {
+    let cases = every_two(&every_two(&books, &lent), &good_and_refused_sheets());
+    for ((book, (exact, shown, outcomes)), sheets) in cases {
+        let mut malformed = Bundle::of(12, &sheets);
+        malformed.zero = 1;
         let case = BundleCase::of(&book, &malformed).with_lengths(exact, shown, outcomes);
         tally.expect_refused(&case, 16, 0);
     }
 }
 
 #[test]
-fn room_comes_before_the_book() {
-    let mut tally = Tally::new("room_comes_before_the_book");
-    let bundle = Bundle::of(12, &sheets(&[2, 1]));
+fn room_comes_before_book_and_sheets() {
+    let mut tally = Tally::new("room_comes_before_book_and_sheets");
+    let books = [book().bytes(), bad_book(), vec![]];
     let lent = [(0, 0, 0), (23, 99, 2), (99, 23, 2), (24, 24, 1)];
-    for (book, (exact, shown, outcomes)) in every_two(&[bad_book(), vec![]], &lent) {
+    let cases = every_two(&every_two(&books, &lent), &good_and_refused_sheets());
+    for ((book, (exact, shown, outcomes)), sheets) in cases {
+        let bundle = Bundle::of(12, &sheets);
         let case = BundleCase::of(&book, &bundle).with_lengths(exact, shown, outcomes);
         tally.expect_refused(&case, 3, 0);
     }

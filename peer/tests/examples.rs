@@ -74,6 +74,16 @@ fn sheet_texts(expected: &str) -> Vec<String> {
     texts
 }
 
+/// Each sheet of a bundle beside its part of the expected output.
+fn check_sheets(case: &BundleCase, folder: &Path) {
+    let filled = case.run_proved().expect("the memory around is kept");
+    let texts = sheet_texts(&expected_text(folder));
+    assert_eq!(texts.len(), case.sheet_count(), "{}", folder.display());
+    for (index, text) in texts.iter().enumerate() {
+        check(&case.sheet_alone(index), &case.sheet_filled(&filled, index), text, folder);
+    }
+}
+
 #[test]
 fn every_example_of_a_bundle() {
     let mut tally = Tally::new("every_example_of_a_bundle");
@@ -82,12 +92,6 @@ fn every_example_of_a_bundle() {
     for folder in folders {
         let case = BundleCase::read(&folder).expect("the example has both files");
         tally.expect_accepted(&case);
-        let filled = case.run_proved().expect("the memory around is kept");
-        let texts = sheet_texts(&expected_text(&folder));
-        assert_eq!(texts.len(), case.sheet_count(), "{}", folder.display());
-        for (index, text) in texts.iter().enumerate() {
-            let sheet = case.sheet_filled(&filled, index);
-            check(&case.sheet_alone(index), &sheet, text, &folder);
-        }
+        check_sheets(&case, &folder);
     }
 }

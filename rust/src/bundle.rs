@@ -30,7 +30,8 @@ pub fn account_bundle(
 }
 
 /// Accounts for every sheet of a bundle with one book: what [`declare`] gives
-/// for each of them, or the refusal of the whole bundle.
+/// for each of them, or the refusal of the whole bundle. A sheet for which the
+/// bundle's cells per sheet are too few is refused with 3.
 ///
 /// It lends as much as 16 sheets of 128 lines need. A bundle that states more
 /// cells in all is refused with 3.

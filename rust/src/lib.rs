@@ -4,8 +4,8 @@
 //! A sheet is one works' year for one pollutant in one medium. The desk itself
 //! is proved; this crate lends it memory and names its answer. [`declare`]
 //! lends memory of its own and gives rows; [`account`] takes the caller's.
-//! [`declare_bundle`] and [`account_bundle`] do the same for a bundle, which has
-//! all sheets of a works. [`report`] gives the text that the program prints.
+//! [`declare_bundle`] and [`account_bundle`] do the same for a bundle of up to
+//! 16 sheets. [`report`] gives the text that the program prints for a sheet.
 
 use std::fmt;
 

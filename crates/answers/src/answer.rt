@@ -84,6 +84,7 @@ impl Outcome {
             Outcome::RefusedLine(_, line) => line,
         }
     }
+
     // The answer as one number: 0 where nothing is refused, else the refusal's number times 65,536, and its line.
     pub fn code(self) -> u64
         ensures { λ r. ⌜ r ≡ codeOf self ⌝ }

@@ -75,12 +75,6 @@ pub malformed-first : (b : List ℕ) (exact shown outcomes : ℕ) → bundleOk b
 unfolding bundleOutcome
 malformed-first b exact shown outcomes h = rw h refl
 
--- and a right one without room is 3
-pub short-then : (b : List ℕ) (exact shown outcomes : ℕ) → bundleOk b ≡ true → roomy b exact shown outcomes ≡ false
-    → bundleOutcome b exact shown outcomes ≡ ResultTooShort
-unfolding bundleOutcome
-short-then b exact shown outcomes h g = rw (h, g) refl
-
 -- ---- where the sheets of a right bundle lie
 
 module _ (b : List ℕ) (right : bundleOk b ≡ true) where

@@ -1,1 +1,2 @@
 pub mod LawBundle
+pub mod LawShutOut

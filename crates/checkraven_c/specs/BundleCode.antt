@@ -1,4 +1,4 @@
--- The answer to a bundle as one number, and what the C function for it promises.
+-- What the C function for a bundle promises: the desk's answer as one number.
 use Prim.Native.Nat.{ℕ}
 use mathlib.Core.Path.{_≡_}
 use mathlib.Core.List.{List}

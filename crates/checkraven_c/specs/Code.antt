@@ -1,4 +1,4 @@
--- The desk's answer as one number, and what the C function promises.
+-- What the C function for a sheet promises: the desk's answer as one number.
 use Prim.Native.Nat.{ℕ, min}
 use mathlib.Core.Path.{_≡_}
 use mathlib.Core.List.{List}

@@ -2,7 +2,7 @@
 use mathlib.Core.Path.{_≡_, refl, sym, ap, _∙_}
 use mathlib.Core.List.{List, [], _∷_}
 use mathlib.Core.Logic.{_≢_}
-use Prim.Native.Nat.{ℕ, _*_, _<_}
+use Prim.Native.Nat.{ℕ}
 use native.Mathlib.Nat.{mul-one}
 use Rattle.search.proofs.LawTest.{clash}
 use Rattle.little.specs.Part.{partOf}
@@ -39,7 +39,7 @@ same-results : (x y : Results) → x .exact ≡ y .exact → x .shown ≡ y .sho
 same-results x y e s o = rw (e, s, o) refl
 
 module _ (book bundle : List ℕ) (before : Results) where
-  pub sheet-once : (i : ℕ) (x y : Results) → AsAlone book bundle before x i → AsAlone book bundle before y i
+  sheet-once : (i : ℕ) (x y : Results) → AsAlone book bundle before x i → AsAlone book bundle before y i
       → (runOf bundle i (x .exact) ≡ runOf bundle i (y .exact)) × (runOf bundle i (x .shown) ≡ runOf bundle i (y .shown))
       × (partOf (x .outcomes) i 1 ≡ partOf (y .outcomes) i 1)
   sheet-once i x y p q =

@@ -1,5 +1,5 @@
--- What the promise shuts out, on a small book and two small sheets: versions that refuse everything, do nothing, have one constant table,
--- copy line 1 down, or show zeros do not meet it.
+-- What the promise shuts out, on a small book, two small sheets and a bundle: versions that refuse everything, do nothing, have one constant
+-- table, copy line 1 down, show zeros, or give one sheet's outcome to all do not meet it.
 use Prim.Native.Nat.{ℕ, _+_, _<_}
 use mathlib.Core.Path.{_≡_, refl, sym, ap, _∙_}
 use mathlib.Core.Bool.{true}
@@ -11,6 +11,10 @@ use Rattle.search.proofs.LawTest.{clash}
 use Rattle.search.specs.First.{first}
 use Rattle.search.specs.Test.{all, every}
 use Rattle.little.specs.Read.{u16At, u32At, u64At}
+use Rattle.little.specs.Part.{partOf}
+use Rattle.answers.specs.Answer.{codeOf}
+use Rattle.bundle.specs.Bundle.{bundleHeaderOk, afterTheOneBefore, entryOk, bundleOk, sheetOf as bundled}
+use Rattle.bundle.specs.Whole.{roomy, bundleOutcome}
 use Rattle.amounts.specs.Line.{removedOf, reusedOf, dischargedOf}
 use Rattle.settle.specs.Shown.{at}
 use Rattle.headers.specs.House.{fileOk}
@@ -27,11 +31,14 @@ use Rattle.desk.specs.Lent.{Lent, lent}
 use Rattle.desk.specs.Account.{treatmentOf, generatedOf, excessive, accountOf, lineOutcome}
 use Rattle.desk.specs.Table.{rows, total, tableOf, byFiles, byLines, answerOf, cellsAfter}
 use Rattle.desk.specs.Declare.{Declared}
+use Rattle.desk.specs.Works.{Results, results, BundleDeclared}
 use Rattle.desk.specs.declared.line.Line.{Line}
 use Rattle.desk.specs.declared.account.LineOutcome.the-variants.{Refusal}
 use Rattle.answers.specs.declared.answer.LineFault.the-variants.{ActivityTooLarge, ReuseTooLarge}
 use Rattle.answers.specs.declared.answer.Outcome.{Outcome}
 use Rattle.answers.specs.declared.answer.Outcome.the-variants.{Accepted}
+use Rattle.answers.specs.declared.bundle.BundleOutcome.{BundleOutcome}
+use Rattle.answers.specs.declared.bundle.BundleOutcome.the-variants.{Taken}
 
 -- a book of one row: particulates in gas of industry 3240, 1 g/t of product (100 units a kilogram), no techniques
 abbrev book : List ℕ
@@ -121,3 +128,38 @@ constant-table r q x y z p h =
 pub reuse-first : (b : List ℕ) (line : Line) → excessive line ≡ true → accountOf b line ≡ Refusal ReuseTooLarge → ⊥
 unfolding accountOf
 reuse-first b line large h = let e : Refusal ActivityTooLarge ≡ Refusal ReuseTooLarge = rw large at h in clash (cc)
+
+-- ---- a whole works
+
+-- a sheet in grams without lines
+abbrev noLines : List ℕ
+noLines = 16 ∷ 0 ∷ 0 ∷ 0 ∷ 0 ∷ 0 ∷ 2 ∷ 3 ∷ 16 ∷ 0 ∷ 0 ∷ 0 ∷ 1 ∷ 0 ∷ 0 ∷ 0 ∷ []
+
+-- two sheets with four cells each: one of no bytes, which is refused with 2, and one without lines, which is accepted
+abbrev twoSheets : List ℕ
+twoSheets =
+    (44 ∷ 0 ∷ 0 ∷ 0 ∷ 2 ∷ 0 ∷ 0 ∷ 0 ∷ 4 ∷ 0 ∷ 0 ∷ 0 ∷ 28 ∷ 0 ∷ 0 ∷ 0 ∷ 0 ∷ 0 ∷ 0 ∷ 0 ∷ 28 ∷ 0 ∷ 0 ∷ 0 ∷ 16 ∷ 0 ∷ 0 ∷ 0 ∷ []) ++ noLines
+
+abbrev lentTwo : Results
+lentTwo = results (replicate 8 7) (replicate 8 7) (7 ∷ 7 ∷ [])
+
+worked-two : (bundleOutcome twoSheets 8 8 2 ≡ Taken) × (codeOf (answerOf (lent book (bundled twoSheets 0)) 4) ≡ 131072)
+    × (codeOf (answerOf (lent book (bundled twoSheets 1)) 4) ≡ 0)
+unfolding bundleOutcome bundleOk bundleHeaderOk entryOk afterTheOneBefore roomy bundled
+    answerOf byFiles bookOk bookHeaderOk fileOk every u32At u16At all rowOk fieldsOk coefficientAt techniquesOk rises sheetOk sheetHeaderOk
+    lineOk u64At byLines
+worked-two = (refl, refl, refl)
+
+-- one that gives one sheet's outcome to all, whatever it leaves in the runs
+pub one-outcome : (r : BundleOutcome) (after : Results) → BundleDeclared book twoSheets lentTwo r after
+    → partOf (after .outcomes) 0 1 ≡ partOf (after .outcomes) 1 1 → ⊥
+unfolding u16At u32At
+one-outcome r after p same =
+    let done = p .taken (p .answer ∙ worked-two .0) in
+    let first = done .sheets 0 (omega arith) in
+    let second = done .sheets 1 (omega arith) in
+    let refused = ap codeOf (first .declared .demand1 .answer) ∙ worked-two .1 in
+    let accepted = ap codeOf (second .declared .demand1 .answer) ∙ worked-two .2 in
+    let codes = sym (first .outcome) ∙ same ∙ second .outcome in
+    let e : codeOf (first .answer) ≡ codeOf (second .answer) = ap (λ (l : List ℕ). at l 0) codes in
+    omega (arith, e, refused, accepted)

@@ -1,6 +1,6 @@
 -- "The sheet": when it is not malformed and within its limits. Its header is in `headers`.
 use Prim.Native.Nat.{ℕ, _+_, _*_}
-use mathlib.Core.Bool.{Bool, _&&_, not}
+use mathlib.Core.Bool.{Bool, _&&_}
 use mathlib.Core.List.{List, [], _∷_}
 use lib.Dec.{leb, eqb}
 use Rattle.little.specs.Read.{byteAt, u64At}

@@ -6,7 +6,7 @@ use native.Mathlib.Nat.{mul-suc}
 use native.Mathlib.Numerals.{add-one}
 use native.Mathlib.Omega.{arith}
 use lib.ListN.{length-append}
-use Rattle.numerals.specs.Laid.{laid, Lays}
+use Rattle.numerals.specs.Laid.{Lays}
 use Rattle.numerals.proofs.LawLaid.{laid-none, laid-more}
 use Rattle.report.specs.Report.{mostRow, numberText, rowText, linesText}
 use Rattle.report.specs.Inner.{Puts}

@@ -1,8 +1,8 @@
 -- What is told of the sheets of a bundle is each sheet's line and its own report.
 use Prim.Native.Nat.{ℕ, zero, suc, _+_, _*_, _≤_, _<_, min}
-use mathlib.Core.Path.{_≡_, refl, sym, ap, _∙_}
+use mathlib.Core.Path.{_≡_, refl, sym, _∙_}
 use mathlib.Core.Bool.{true}
-use mathlib.Core.List.{List, [], _++_}
+use mathlib.Core.List.{List}
 use mathlib.Core.Logic.{_≢_}
 use native.Mathlib.Nat.{mul-suc, mul-le-mul-left}
 use native.Mathlib.Numerals.{add-one}
@@ -11,23 +11,22 @@ use lib.ListN.{length}
 use borrow.Author.Tests.{le-leb}
 use Rattle.search.proofs.LawTest.{either-way}
 use Rattle.settle.specs.Shown.{at as cell}
-use Rattle.headers.specs.Sheet.{lineCount, mostLines}
-use Rattle.answers.specs.Answer.{codeOf}
+use Rattle.headers.specs.Sheet.{lineCount}
 use Rattle.answers.specs.Bundle.{bundleNumber}
 use Rattle.answers.specs.declared.bundle.BundleOutcome.{BundleOutcome}
 use Rattle.answers.specs.declared.bundle.BundleOutcome.the-variants.{Taken, BundleMalformed, ResultTooShort}
 use Rattle.bundle.specs.Bundle.{mostSheets, sheetCount, cellsPerSheet, sheetOf}
 use Rattle.bundle.specs.Whole.{roomy, bundleOutcome}
-use Rattle.bundle.proofs.LawBundle.{taken-room, taken-right, sheets-few, exact-room, shown-room, run-inside}
+use Rattle.bundle.proofs.LawBundle.{exact-room, shown-room, run-inside}
 use Rattle.desk.specs.Lent.{Lent, lent}
 use Rattle.desk.specs.Cells.{tableSize}
 use Rattle.desk.specs.Sheet.{sheetOk}
 use Rattle.desk.specs.Table.{bySheet, byFiles, answerOf}
-use Rattle.desk.specs.Works.{Results, runOf, AsAlone, FirstSheets, SheetBySheet, BundleDeclared}
+use Rattle.desk.specs.Works.{Results, runOf, AsAlone, SheetBySheet}
 use Rattle.desk.proofs.LawTable.{lines-few}
 use Rattle.desk.proofs.LawWorks.{run-size, outcome-cell}
 use Rattle.report.specs.Report.{refusalText, mostCells, reportOf}
-use Rattle.report.specs.Bundle.{sheetLine, sheetReport, sheetsText, roomLent, bundleReportFor, bundleReportOf, mostSheetText, mostBundleText}
+use Rattle.report.specs.Bundle.{sheetReport, sheetsText, roomLent, bundleReportFor, bundleReportOf, mostSheetText, mostBundleText}
 use Rattle.report.specs.Inner.{mostRefusal, Puts, answerText, sheetText, sheetTexts, SheetsTellable}
 use Rattle.report.proofs.LawPut.{nothing, then, more}
 use Rattle.report.proofs.LawTold.{told-few, told-is}
@@ -89,22 +88,23 @@ module _ (book bundle : List ℕ) (before after : Results) (room : roomy bundle 
   pub taken-told : SheetBySheet book bundle before after → sheetTexts bundle after (sheetCount bundle) ≡ sheetsText book bundle (sheetCount bundle)
   taken-told done = sheets-told (sheetCount bundle) (omega arith) (done .sheets)
 
--- ---- a run with room for the sheet's tables
+-- ---- a run with room for the sheet's tables, or a sheet that is malformed
 
 -- then its report is what is printed for the sheet alone
-module _ (f : Lent) (room : ℕ) (fits : tableSize (lineCount (f .sheet)) ≤ room) where
+module _ (f : Lent) (room : ℕ) (fits : sheetOk (f .sheet) ≡ true → tableSize (lineCount (f .sheet)) ≤ room) where
   sheet-same : bySheet (f .sheet) room ≡ bySheet (f .sheet) mostCells
   sheet-same =
       either-way (sheetOk (f .sheet))
       (λ p. let most : tableSize (lineCount (f .sheet)) ≤ mostCells = omega (arith, lines-few (f .sheet) p) in
-      rw (p, le-leb (tableSize (lineCount (f .sheet))) room fits, le-leb (tableSize (lineCount (f .sheet))) mostCells most) refl)
+      rw (p, le-leb (tableSize (lineCount (f .sheet))) room (fits p), le-leb (tableSize (lineCount (f .sheet))) mostCells most) refl)
       (λ p. rw p refl)
 
-  pub same-answer : answerOf f room ≡ answerOf f mostCells
+  same-answer : answerOf f room ≡ answerOf f mostCells
   unfolding answerOf byFiles
   same-answer = rw sheet-same refl
 
-pub as-printed-alone : (book bundle : List ℕ) (i : ℕ) → tableSize (lineCount (sheetOf bundle i)) ≤ cellsPerSheet bundle
+pub as-printed-alone : (book bundle : List ℕ) (i : ℕ)
+    → (sheetOk (sheetOf bundle i) ≡ true → tableSize (lineCount (sheetOf bundle i)) ≤ cellsPerSheet bundle)
     → sheetReport book bundle i ≡ reportOf (lent book (sheetOf bundle i))
 unfolding reportOf
 as-printed-alone book bundle i fits = rw (same-answer (lent book (sheetOf bundle i)) (cellsPerSheet bundle) fits) refl

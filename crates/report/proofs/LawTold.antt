@@ -1,10 +1,9 @@
 -- What is told of the desk's answer by its code is the report: figures by the two tables, which are the first cells of the results, and a
 -- refusal by its number and line.
-use Prim.Native.Nat.{ℕ, _+_, _*_, _/_, _%_, _≤_, min}
+use Prim.Native.Nat.{ℕ, _≤_, _<_, min}
 use mathlib.Core.Path.{_≡_, refl, sym, ap, _∙_}
 use mathlib.Core.Bool.{false}
 use mathlib.Core.List.{List}
-use mathlib.Core.Logic.{⊎-elim, _≢_}
 use native.Mathlib.Omega.{arith}
 use lib.Dec.{eqb}
 use lib.ListN.{length, take, drop}
@@ -12,7 +11,8 @@ use lib.Seq.{take-at}
 use borrow.Author.Tests.{ne-eqb}
 use Rattle.search.proofs.LawTest.{clash}
 use Rattle.settle.proofs.LawShown.{shown-length}
-use Rattle.answers.specs.Answer.{lineRule, answerNumber, answerLine, numberUnit, codeOf}
+use Rattle.answers.proofs.LawCode.{code-zero, code-number, code-line}
+use Rattle.answers.specs.Answer.{numberUnit, codeOf}
 use Rattle.answers.specs.declared.answer.FileFault.the-variants.{BookMalformed, SheetMalformed, ResultTooShort}
 use Rattle.answers.specs.declared.answer.LineFault.{LineFault}
 use Rattle.answers.specs.declared.answer.Outcome.{Outcome}
@@ -22,7 +22,6 @@ use Rattle.desk.specs.Lent.{Lent}
 use Rattle.desk.specs.Account.{lineOutcome}
 use Rattle.desk.specs.Cells.{tableSize}
 use Rattle.desk.specs.Declare.{shownAfter, Declared}
-use Rattle.desk.specs.Demands.{OfFile, OfLine}
 use Rattle.desk.specs.Inner.{Ready}
 use Rattle.desk.proofs.LawTable.{ready, lines-few}
 use Rattle.desk.proofs.LawDemands.{accepted, answer-line-small}
@@ -31,25 +30,12 @@ use Rattle.report.specs.Report.{exactOf, shownOf, reportFor}
 use Rattle.report.specs.Inner.{answerText}
 
 module _ (f : Lent) (exact shown : List ℕ) (answer : Outcome) (exact' shown' : List ℕ) (d : Declared f exact shown answer exact' shown') where
-  -- a refusal's number is at least 1
-  numbered : answer ≢ Accepted → 1 ≤ answerNumber answer
-  numbered refused =
-      ⊎-elim (λ (h : OfFile _ _). h .first) (λ (h : OfLine _ _ _). omega (arith, h .first)) (d .demand1 .numbered refused)
-
-  zero-accepted : codeOf answer ≡ 0 → answer ≡ Accepted
-  zero-accepted z = go answer refl
-    where
-      go : (o : Outcome) → answer ≡ o → answer ≡ Accepted
-      go Accepted e = e
-      go (RefusedFile k) e = absurd (omega (arith, z, numbered (λ (q : answer ≡ Accepted). clash (cc))))
-      go (RefusedLine k line) e = absurd (omega (arith, z, numbered (λ (q : answer ≡ Accepted). clash (cc))))
-
   is-ready : answer ≡ Accepted → Ready f (min (length exact) (length shown))
   is-ready e = ready f _ (accepted f _ (sym (d .demand1 .answer) ∙ e) .0)
 
   -- a sheet that has figures has few lines
   pub told-few : codeOf answer ≡ 0 → lineCount (f .sheet) ≤ mostLines
-  told-few z = lines-few (f .sheet) (is-ready (zero-accepted z) .sheet)
+  told-few z = lines-few (f .sheet) (is-ready (code-zero answer z) .sheet)
 
   -- the first cells of both results are the tables
   module _ (ok : answer ≡ Accepted) where
@@ -64,21 +50,15 @@ module _ (f : Lent) (exact shown : List ℕ) (answer : Outcome) (exact' shown' :
         let shows = rw ok at (d .tables .shows) in
         ap (take (tableSize n)) shows ∙ take-at (shownOf f) (drop (tableSize n) shown) (tableSize n) (omega (arith, size))
 
-  -- the parts of a line's code
+  -- a refused line's code is not 0, and its line is small
   module _ (k : LineFault) (line : ℕ) (e : answer ≡ RefusedLine k line) where
-    small : line ≤ mostLines
-    small = rw (← d .demand1 .answer, e) at (answer-line-small f (min (length exact) (length shown)))
+    small : line < numberUnit
+    small = omega (arith, rw (← d .demand1 .answer, e) at (answer-line-small f (min (length exact) (length shown))))
 
     not-zero : eqb (codeOf (RefusedLine k line)) 0 ≡ false
     not-zero =
-        let one : 1 ≤ lineRule k = rw e at (numbered (λ (q : answer ≡ Accepted). clash (cc))) in
-        ne-eqb (codeOf (RefusedLine k line)) 0 (λ (z : codeOf (RefusedLine k line) ≡ 0). omega (arith, z, one))
-
-    number-part : codeOf (RefusedLine k line) / numberUnit ≡ lineRule k
-    number-part = omega (arith, small)
-
-    line-part : codeOf (RefusedLine k line) % numberUnit ≡ line
-    line-part = omega (arith, small)
+        ne-eqb (codeOf (RefusedLine k line)) 0
+        (λ (z : codeOf (RefusedLine k line) ≡ 0). let same = code-zero (RefusedLine k line) z in clash (cc))
 
   pub told-is : answerText (codeOf answer) (f .sheet) exact' shown' ≡ reportFor answer f
   unfolding answerText reportFor
@@ -89,4 +69,6 @@ module _ (f : Lent) (exact shown : List ℕ) (answer : Outcome) (exact' shown' :
       go (RefusedFile BookMalformed) e = refl
       go (RefusedFile SheetMalformed) e = refl
       go (RefusedFile ResultTooShort) e = refl
-      go (RefusedLine k line) e = rw (not-zero k line e, number-part k line e, line-part k line e) refl
+      go (RefusedLine k line) e =
+          let r = RefusedLine k line in
+          rw (not-zero k line e, code-number r (small k line e), code-line r (small k line e)) refl

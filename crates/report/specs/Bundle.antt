@@ -1,5 +1,5 @@
--- "The program": a bundle's report. For each sheet a line `sheet I`, and then what is printed for that sheet alone; a refused bundle is
--- only `refused N line 0`.
+-- "The program": a bundle's report. For each sheet a line `sheet I`, and then what is printed for that sheet alone with its run; a refused
+-- bundle is only `refused N line 0`.
 use Prim.Native.Nat.{ℕ, zero, suc, _+_, _*_}
 use mathlib.Core.List.{List, [], _∷_, _++_}
 use lib.ListN.{length}

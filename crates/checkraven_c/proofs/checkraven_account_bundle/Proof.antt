@@ -9,7 +9,7 @@ returns : tie.Need-returns
 returns c =
     let desk = c .before .before .before .before .before .before .before .declare-bundle .ensures in
     let answer = desk .answer in
-    record { answer = rw (c .code .ensures) (ap bundleCode answer); declared = rw answer at desk }
+    record { declared = rw answer at desk; answer = rw (c .code .ensures) (ap bundleCode answer) }
 
 pub checkraven-account-bundle-spec : {M : Type 1} → statement M
 checkraven-account-bundle-spec =

@@ -1,6 +1,5 @@
 -- The desk's answer to the whole is told apart: its sheets, or the refusal.
 use mathlib.Core.Path.{sym, _∙_}
-use native.Mathlib.Omega.{arith}
 use borrow.Author.Needs.{needs}
 use Rattle.bundle.proofs.LawBundle.{taken-room, taken-right, sheets-few}
 use Rattle.desk.proofs.LawWorks.{not-taken}

@@ -1,5 +1,4 @@
 -- Told apart by the code: figures by the first cells, a refusal by its number and line.
-use mathlib.Core.Path.{_≡_, _∙_}
 use native.Mathlib.Omega.{arith}
 use borrow.Author.Needs.{needs}
 use borrow.Author.Tests.{eq-eqb, ne-eqb}

@@ -1,0 +1,40 @@
+-- What the answer's one number tells: it is 0 for accepted alone, and its two parts are the number and the line.
+use Prim.Native.Nat.{_/_, _%_, _≤_, _<_}
+use mathlib.Core.Path.{_≡_, refl}
+use native.Mathlib.Omega.{arith}
+use Rattle.answers.specs.Answer.{fileRule, lineRule, answerNumber, answerLine, numberUnit, codeOf}
+use Rattle.answers.specs.declared.answer.FileFault.{FileFault}
+use Rattle.answers.specs.declared.answer.FileFault.the-variants.{BookMalformed, SheetMalformed, ResultTooShort}
+use Rattle.answers.specs.declared.answer.LineFault.{LineFault}
+use Rattle.answers.specs.declared.answer.LineFault.the-variants as line
+use Rattle.answers.specs.declared.answer.Outcome.{Outcome}
+use Rattle.answers.specs.declared.answer.Outcome.the-variants.{Accepted, RefusedFile, RefusedLine}
+
+-- a rule's number is at least 1
+file-some : (k : FileFault) → 1 ≤ fileRule k
+file-some BookMalformed = omega arith
+file-some SheetMalformed = omega arith
+file-some ResultTooShort = omega arith
+
+line-some : (k : LineFault) → 1 ≤ lineRule k
+line-some line.ActivityTooLarge = omega arith
+line-some line.ReuseTooLarge = omega arith
+line-some line.NoRow = omega arith
+line-some line.NoTechnique = omega arith
+line-some line.WrongKind = omega arith
+line-some line.BadReading = omega arith
+line-some line.ZeroDivisor = omega arith
+line-some line.KAboveOne = omega arith
+
+pub code-zero : (r : Outcome) → codeOf r ≡ 0 → r ≡ Accepted
+code-zero Accepted z = refl
+code-zero (RefusedFile k) z = absurd (omega (arith, z, file-some k))
+code-zero (RefusedLine k n) z = absurd (omega (arith, z, line-some k))
+
+-- a line below 65,536, as a u16 is
+module _ (r : Outcome) (small : answerLine r < numberUnit) where
+  pub code-number : codeOf r / numberUnit ≡ answerNumber r
+  code-number = omega (arith, small)
+
+  pub code-line : codeOf r % numberUnit ≡ answerLine r
+  code-line = omega (arith, small)

@@ -1,6 +1,6 @@
 -- What the answer tells: 0 is accepted, else the quotient by 65,536 is the refusal's number and the remainder its line. And two outcomes
 -- that the promise allows are equal.
-use Prim.Native.Nat.{ℕ, _/_, _%_, min}
+use Prim.Native.Nat.{ℕ, _/_, _%_, _<_, min}
 use mathlib.Core.Path.{_≡_, sym, ap, _∙_}
 use mathlib.Core.List.{List}
 use native.Mathlib.Omega.{arith}

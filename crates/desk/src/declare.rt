@@ -48,11 +48,11 @@ fn both_tables(book: &[u8], sheet: &[u8], exact: &mut [u64], shown: &mut [u64]) 
 
 // What `declare` answers and leaves, for a book of which it is known whether it is right.
 pub(crate) fn declare_told(
+    good: bool,
     book: &[u8],
     sheet: &[u8],
     exact: &mut [u64],
     shown: &mut [u64],
-    good: bool,
 ) -> Outcome
     requires { ⌜ good ≡ bookOk (now book) ⌝ }
     ensures { λ r. ⌜ Declared (lent (now (book .entry)) (now (sheet .entry)))
@@ -73,5 +73,5 @@ pub fn declare(book: &[u8], sheet: &[u8], exact: &mut [u64], shown: &mut [u64]) 
     ensures { λ r. ⌜ Declared (lent (now (book .entry)) (now (sheet .entry)))
         (now (exact .entry)) (now (shown .entry)) r (now (exact .exit)) (now (shown .exit)) ⌝ }
 {
-    declare_told(book, sheet, exact, shown, book_ok(book))
+    declare_told(book_ok(book), book, sheet, exact, shown)
 }

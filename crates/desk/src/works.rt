@@ -32,11 +32,11 @@ fn declare_sheet(
     let from = i * cells;
     let to = from + cells;
     declare_told(
+        good,
         book,
         sheet_of(bundle, i),
         &mut exact[from..to],
         &mut shown[from..to],
-        good,
     )
 }
 

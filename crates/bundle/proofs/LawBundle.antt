@@ -31,24 +31,20 @@ later-sheet b (suc i) h =
 -- ---- the room
 
 module _ (b : List ℕ) (exact shown outcomes : ℕ) (h : roomy b exact shown outcomes ≡ true) where
-  tests : List Bool
+  abbrev tests : List Bool
   tests = leb (cellsOwned b) exact ∷ leb (cellsOwned b) shown ∷ leb (sheetCount b) outcomes ∷ []
 
-  all-pass : every tests ≡ true
-  unfolding roomy tests
-  all-pass = h
-
   pub exact-room : cellsOwned b ≤ exact
-  unfolding tests
-  exact-room = leb-true _ _ (every-at tests all-pass 0)
+  unfolding roomy
+  exact-room = leb-true _ _ (every-at tests h 0)
 
   pub shown-room : cellsOwned b ≤ shown
-  unfolding tests
-  shown-room = leb-true _ _ (every-at tests all-pass 1)
+  unfolding roomy
+  shown-room = leb-true _ _ (every-at tests h 1)
 
   pub outcomes-room : sheetCount b ≤ outcomes
-  unfolding tests
-  outcomes-room = leb-true _ _ (every-at tests all-pass 2)
+  unfolding roomy
+  outcomes-room = leb-true _ _ (every-at tests h 2)
 
 pub taken-right : (b : List ℕ) (exact shown outcomes : ℕ) → bundleOutcome b exact shown outcomes ≡ Taken → bundleOk b ≡ true
 unfolding bundleOutcome

@@ -1,7 +1,7 @@
 -- One sheet of a bundle after another, each in its own runs; and what a whole works' promise says.
-use Prim.Native.Nat.{ℕ, suc, _+_, _*_, _≤_, _<_}
+use Prim.Native.Nat.{ℕ, suc, _+_, _*_, _-_, _≤_, _<_}
 use mathlib.Core.Path.{_≡_, refl, sym, ap, _∙_}
-use mathlib.Core.List.{List, [], _∷_, _++_}
+use mathlib.Core.List.{List, [], _∷_}
 use mathlib.Core.Logic.{⊎-elim, _≢_}
 use denote.Enum.Declared.{tagOf}
 use types.Run.{OneOf}
@@ -10,7 +10,7 @@ use native.Mathlib.Nat.{suc-mul, mul-le-mul-right, eq-or-lt-of-le}
 use native.Mathlib.Numerals.{add-one}
 use lib.ListN.{length, take, drop, set, length-drop, length-set}
 use lib.Seq.{drop-at, drop-drop, set-split, length-take-le, take-set-le, drop-set-lt, getD-take, getD-drop}
-use borrow.Rule.Slice.PartMut.{putMid, take-put}
+use borrow.Rule.Slice.PartMut.{putMid, take-put, drop-put}
 use Rattle.search.proofs.LawTest.{clash}
 use Rattle.little.specs.Part.{partOf}
 use Rattle.settle.specs.Shown.{at}
@@ -40,14 +40,9 @@ not-taken ResultTooShort h e = clash (cc)
 around-put : (from count : ℕ) (cells part : List ℕ) → from + count ≤ length cells → length part ≡ count
     → Around from count cells (putMid from count cells part)
 around-put from count cells part h e =
-    let front = take from cells in
-    let rest = drop count (drop from cells) in
-    let far : drop (from + count) (front ++ (part ++ rest)) ≡ drop (from + count) cells =
-    sym (drop-drop count from (front ++ (part ++ rest)))
-    ∙ ap (drop count) (drop-at front (part ++ rest) from (length-take-le from cells (omega arith)))
-    ∙ drop-at part rest count e
-    ∙ drop-drop count from cells in
-    record { before = take-put from count cells part (omega arith); past = far }
+    let size : from + count - from ≡ count = omega arith in
+    let past = drop-put from (from + count) cells part (omega arith) h (e ∙ sym size) in
+    record { before = take-put from count cells part (omega arith); past = rw size at past }
 
 -- a run inside a result has its cells
 pub run-size : (from count : ℕ) (cells : List ℕ) → from + count ≤ length cells → length (partOf cells from count) ≡ count

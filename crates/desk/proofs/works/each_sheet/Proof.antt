@@ -48,11 +48,9 @@ slice-write-outcomes c =
 
 mul-outcomes : tie.Need-mul-outcomes Inv-loop μ-loop
 mul-outcomes c =
-    let loop = c .before .before .before .before .before .before .before .before .before .loop in
-    let count = c .before .before .before .before .before .before .before .before .before .before .sheet-count .ensures .eq in
+    let count = c .before .before .before .before .before .before .before .before .before .before .sheet-count .ensures .small in
     let below = c .before .before .before .before .before .before .before .before .loop-test .taken in
-    let room = outcomes-room _ _ _ _ (c .before .before .before .before .before .before .before .before .before .before .before .before .before .before .before .before .before .pre) in
-    omega (arith, room, loop .inv .3, below, count)
+    omega (arith, below, count)
 
 loop-again : tie.Need-loop-again Inv-loop μ-loop
 loop-again c =

@@ -32,7 +32,7 @@ extern "C" {
 #define CHECKRAVEN_WRONG_KIND          8  /* reading kind doesn't go with the k rule */
 #define CHECKRAVEN_BAD_READING         9  /* a used reading is bad or over its limit */
 #define CHECKRAVEN_ZERO_DIVISOR       10  /* production hours, rated kW or energy run hours 0 as thousandths */
-#define CHECKRAVEN_K_ABOVE_ONE        11  /* k above 1 */
+#define CHECKRAVEN_K_ABOVE_ONE        11  /* energy above what the rating allows: k above 1 */
 #define CHECKRAVEN_BUNDLE_MALFORMED   16  /* bundle malformed or over a limit */
 
 /* Number and line of a refusal. The line counts from 1; 0 means a whole file. */

@@ -6,11 +6,13 @@ use peer::make::generate::Size;
 use peer::make::works::{mixed_works, sound_works};
 use peer::make::{every_two, Book, Bundle, Line, Random, Row, Sheet, Technique};
 
-/// One row by hours, COD in water.
+/// A row by hours and one by energy (process 2), COD in water.
 fn book() -> Book {
     let technique = |code, efficiency| Technique { code, efficiency };
+    let row = Row::plain(1, 1, 203);
+    let by_energy = Row { place: [3240, 1, 1, 2], ..row }.with_techniques(2, 0, 1);
     Book {
-        rows: vec![Row::plain(1, 1, 203).with_techniques(1, 0, 2)],
+        rows: vec![row.with_techniques(1, 0, 2), by_energy],
         techniques: vec![technique(1, 700), technique(2, 300)],
         gaps: [0, 0, 0],
     }
@@ -96,6 +98,9 @@ fn more_than_sixteen_sheets() {
     }
 }
 
+/// A thousandth of a kWh more than 0.5 kW take in 3600 hours.
+const OVER_RATING: [f64; 3] = [1800.001, 0.5, 3600.0];
+
 /// A line fault and the number of its refusal.
 type Fault = (u64, fn(&mut Line));
 
@@ -107,7 +112,7 @@ const FAULTS: [Fault; 8] = [
     (8, |line| line.kind = 2),
     (9, |line| line.readings[0] = f64::NAN.to_bits()),
     (10, |line| line.readings[1] = 0.0004f64.to_bits()),
-    (11, |line| line.readings[0] = 7920.001f64.to_bits()),
+    (11, |line| *line = Line { place: [3240, 1, 1, 2], ..line.treated(1, 2, OVER_RATING) }),
 ];
 
 /// Sheets with every refusal that a sheet of its own can have where its runs

@@ -22,6 +22,8 @@ struct Works {
     reuse: f64,
     run: f64,
     production: f64,
+    energy: f64,
+    rated: f64,
 }
 
 /// What comes of a line: removed, reused, discharged; how the run was read.
@@ -34,17 +36,25 @@ struct Worked {
 type Rounding = fn(f64) -> f64;
 
 /// The desk in grams, with a book of one unit per kilogram and one technique, code 1.
-fn desk(medium: u8, percent: f64, lines: Vec<Line>) -> Filled {
-    let rows = vec![Row { places: 5, ..Row::plain(medium, 1, 1) }.with_techniques(1, 0, 1)];
+fn desk(medium: u8, percent: f64, k_rule: u8, lines: Vec<Line>) -> Filled {
+    let rows = vec![Row { places: 5, ..Row::plain(medium, 1, 1) }.with_techniques(k_rule, 0, 1)];
     let techniques = vec![Technique { code: 1, efficiency: (10.0 * percent).round() as u16 }];
     let book = Book { rows, techniques, gaps: [0; 3] };
     run_proved(&Case::of(&book, &Sheet::new(medium, 1, 1, lines))).expect("memory is kept")
 }
 
 impl Works {
+    fn by_energy(&self) -> bool {
+        self.rated > 0.0
+    }
+
     /// The manual's formula, whatever is put into it.
     fn formula(&self, [first, second, third]: [Rounding; 3]) -> [f64; 3] {
-        let percent = self.efficiency * self.run / self.production;
+        let (ran, whole) = match self.by_energy() {
+            true => (self.energy, self.rated * self.run),
+            false => (self.run, self.production),
+        };
+        let percent = self.efficiency * ran / whole;
         let removed = first(self.generated * percent / 100.0);
         let left = self.generated - removed;
         let reuse = if self.medium == WATER { self.reuse } else { 0.0 };
@@ -80,11 +90,15 @@ impl Works {
 
     /// A line without any hours has no reading.
     fn filled_by_desk(&self) -> Filled {
-        let kind = if self.run == 0.0 && self.production == 0.0 { 0 } else { 1 };
+        let (kind, readings) = match (self.run, self.production) {
+            _ if self.by_energy() => (2, [self.energy, self.rated, self.run]),
+            (0.0, 0.0) => (0, [0.0; 3]),
+            (run, production) => (1, [run, production, 0.0]),
+        };
         let reuse = (10.0 * self.reuse).round() as u16;
         let line = Line { reuse, ..Line::direct(self.generated as u64) };
-        let line = line.treated(self.technique, kind, [self.run, self.production, 0.0]);
-        desk(self.medium, self.efficiency, vec![line])
+        let line = line.treated(self.technique, kind, readings);
+        desk(self.medium, self.efficiency, if kind == 2 { 2 } else { 1 }, vec![line])
     }
 
     /// The run's thousandths are seen through k = run / 1000 hours.
@@ -104,7 +118,9 @@ impl Works {
             "Generated" => self.generated = number(cell)?,
             "Efficiency" => self.efficiency = number(cell.strip_suffix(" %")?)?,
             "Technique" => self.technique = number(cell)? as u16,
-            "Run" => self.run = number(cell)?,
+            "Run" | "Run hours" => self.run = number(cell)?,
+            "kWh" => self.energy = number(cell)?,
+            "Rated kW" => self.rated = number(cell)?,
             "Production" => self.production = number(cell)?,
             "Reuse" => self.reuse = number(cell.strip_suffix(" %")?)?,
             _ => return None,
@@ -162,7 +178,7 @@ fn shown_row(row: &[&str], rows: &[Vec<&str>]) -> Option<Vec<String>> {
     let lines = rows[0].iter().skip(1).take(row.len() - 3);
     let exact: Vec<f64> = lines.map(|cell| number(cell)).collect::<Option<_>>()?;
     let lines = exact.iter().map(|units| Line::direct(*units as u64)).collect();
-    let by_desk = desk(WATER, 0.0, lines).shown.into_iter().skip(3).step_by(4);
+    let by_desk = desk(WATER, 0.0, 1, lines).shown.into_iter().skip(3).step_by(4);
     let with_total = exact.iter().copied().chain([exact.iter().sum()]);
     let mut shown: Vec<f64> = match row[0] {
         "exact" => with_total.collect(),
@@ -237,7 +253,11 @@ fn a_spoiled_page_is_noticed() {
         ("| reuse everywhere |", "| everywhere |"),
         ("| −650 | 165 % |", "| −650 | 166 % |"),
         ("| desk | 1 | 2 | 3 | 3 |", "| desk | 2 | 2 | 4 | 3 |"),
+        ("| 8,400 | 8,000 | 700 | 300 |", "| 8,400 | 8,000 | 735 | 265 |"),
+        ("| 8,100 | 8,000 | 990 | 10 |", "| 8,100 | 8,000 | 1,002 | −2 |"),
         ("refused 11 line 1", "refused 10 line 1"),
+        ("| 0.5 | 3,600 | 475 |", "| 0.5 | 3,600 | 950 |"),
+        ("700 of 1,000", "750 of 1,000"),
         ("| Added | Total |", "| Sum | Total |"),
         ("| Kept back |", "| Kept |"),
         ("On 10 units", "On 11 units"),

@@ -105,7 +105,8 @@ fn document_002_runs_throughout() {
     check(&mut Tally::new("document_002_runs_throughout"), &figure, 2);
 }
 
-/// 8784 hours, 10^9 kg and 8000 of 8000 hours are taken; a little more isn't.
+/// 8784 hours, 10^9 kg and 8000 of 8000 hours are taken; a little more isn't,
+/// but a run of more than the production hours is.
 #[test]
 fn the_limits_of_the_paper() {
     let mut tally = Tally::new("the_limits_of_the_paper");
@@ -121,7 +122,7 @@ fn the_limits_of_the_paper() {
     tally.expect_accepted(&case(&line(1_000_000_000, 8.0, 9.0), 1));
     tally.expect_refused(&case(&line(1_000_000_001, 8.0, 9.0), 1), 4, 1);
     tally.expect_accepted(&case(&line(5, 8000.0, 8000.0), 1));
-    tally.expect_refused(&case(&line(5, 8000.001, 8000.0), 1), 11, 1);
+    tally.expect_accepted(&case(&line(5, 8000.001, 8000.0), 1));
 }
 
 /// A reading's thousandths seen through k = reading / 1000 hours and G = 10^9.

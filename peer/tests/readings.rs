@@ -1,7 +1,7 @@
 //! Readings at every edge, for both kinds that have readings.
 
 use checkraven::Outcome;
-use peer::compare::{thinned, Case, Tally};
+use peer::compare::{run_proved, thinned, Case, Tally};
 use peer::make::{edges, Book, Line, Row, Sheet, Technique};
 use peer::plain::reading::thousandths;
 
@@ -87,18 +87,101 @@ fn the_limits() {
     tally.expect_refused(&energy(1.0, 10_000.0, 8784.001), 9, 1);
 }
 
+/// The desk's exact table of an accepted line.
+fn exact(tally: &mut Tally, case: &Case) -> Vec<u64> {
+    tally.expect_accepted(case);
+    run_proved(case).expect("the memory around is kept").exact
+}
+
+/// Half a thousandth.
+const HALF: f64 = 0.0005;
+
+fn just_below(number: f64) -> f64 {
+    f64::from_bits(number.to_bits() - 1)
+}
+
+/// At the production hours and above them the amounts are those of a treatment
+/// that ran throughout; a thousandth below less is removed.
 #[test]
-fn k_at_one_and_one_thousandth_above() {
-    let mut tally = Tally::new("k_at_one_and_one_thousandth_above");
-    tally.expect_accepted(&hours(8000.0, 8000.0));
-    tally.expect_refused(&hours(8000.001, 8000.0), 11, 1);
-    tally.expect_accepted(&hours(0.001, 0.001));
-    tally.expect_refused(&hours(0.002, 0.001), 11, 1);
-    tally.expect_accepted(&energy(1800.0, 0.5, 3600.0));
-    tally.expect_refused(&energy(1800.001, 0.5, 3600.0), 11, 1);
+fn runs_around_the_production() {
+    let mut tally = Tally::new("runs_around_the_production");
+    let throughout = exact(&mut tally, &case(1, 3, [0; 3]));
+    for production in [0.001, 0.002, 0.062, 1.0, 4000.0, 8000.0, 8783.998] {
+        let above = [0.0, 0.98 * HALF, 1.02 * HALF, 0.001, 0.002, 8784.0 - production];
+        for run in above.map(|excess| production + excess) {
+            assert_eq!(exact(&mut tally, &hours(run, production)), throughout, "{run}");
+        }
+        let less = exact(&mut tally, &hours(production - 0.001, production));
+        assert!(less[1] < throughout[1], "{production}");
+        let over_half_below = hours(production - 1.02 * HALF, production);
+        assert_eq!(exact(&mut tally, &over_half_below), less);
+    }
+}
+
+/// 0.0625 is 63 thousandths, and the number before it 62.
+#[test]
+fn runs_at_a_tie_around_the_production() {
+    let mut tally = Tally::new("runs_at_a_tie_around_the_production");
+    let throughout = exact(&mut tally, &case(1, 3, [0; 3]));
+    let before = just_below(0.0625);
+    for (run, production) in [(before, 0.062), (0.0625, 0.062), (0.0625, 0.063), (0.063, 0.0625)] {
+        assert_eq!(exact(&mut tally, &hours(run, production)), throughout, "{run} {production}");
+    }
+    let below = exact(&mut tally, &hours(before, 0.0625));
+    assert_eq!(below, exact(&mut tally, &hours(0.062, 0.063)));
+    assert!(below[1] < throughout[1]);
+}
+
+/// 9 and 10 come before a run is held against the production.
+#[test]
+fn runs_over_the_limit_are_bad_whatever_the_production() {
+    let mut tally = Tally::new("runs_over_the_limit_are_bad_whatever_the_production");
+    for production in [0.0, 0.0004, 0.001, 8000.0, 8783.999, 8784.0] {
+        for run in [8784.001, 8784.0 + 1.02 * HALF, 10_000.0, 1e300, f64::INFINITY] {
+            tally.expect_refused(&hours(run, production), 9, 1);
+        }
+        tally.expect_refused(&hours(8784.0, -production - 0.001), 9, 1);
+    }
+    tally.expect_accepted(&hours(8784.0 + 0.98 * HALF, 0.001));
+    for production in [0.0, 0.98 * HALF] {
+        tally.expect_refused(&hours(8784.0, production), 10, 1);
+    }
+}
+
+/// An energy above what the rating allows stays refused, by any excess.
+#[test]
+fn energies_around_the_rating() {
+    let mut tally = Tally::new("energies_around_the_rating");
+    let throughout = exact(&mut tally, &case(2, 3, [0; 3]));
+    for (rated, hours) in [(0.5, 3600.0), (0.001, 1000.0), (10_000.0, 1000.0), (77.0, 8784.0)] {
+        let most = rated * hours;
+        for used in [most, most + 0.98 * HALF] {
+            assert_eq!(exact(&mut tally, &energy(used, rated, hours)), throughout, "{used}");
+        }
+        let less = exact(&mut tally, &energy(most - 0.001, rated, hours));
+        assert!(less[1] < throughout[1], "{most}");
+        let above = |excess| energy(most + excess, rated, hours);
+        let number = if most < 10_000_000.0 { 11 } else { 9 };
+        for excess in [1.02 * HALF, 0.001, 0.002, 1.0] {
+            tally.expect_refused(&above(excess), number, 1);
+        }
+        tally.expect_refused(&above(10_000_000.0), 9, 1);
+    }
     // 0.001 kW over 0.001 h is less than a thousandth of a kWh.
     tally.expect_refused(&energy(0.001, 0.001, 0.001), 11, 1);
     tally.expect_accepted(&energy(0.0004, 0.001, 0.001));
+    tally.expect_refused(&energy(10_000_000.0, 0.001, 0.001), 11, 1);
+}
+
+/// Likewise at a tie: 63 thousandths of a kWh, or 62.
+#[test]
+fn energies_at_a_tie_around_the_rating() {
+    let mut tally = Tally::new("energies_at_a_tie_around_the_rating");
+    tally.expect_accepted(&energy(just_below(0.0625), 0.062, 1.0));
+    tally.expect_refused(&energy(0.0625, 0.062, 1.0), 11, 1);
+    tally.expect_accepted(&energy(0.0625, 0.063, 1.0));
+    tally.expect_accepted(&energy(0.063, 0.0625, 1.0));
+    tally.expect_refused(&energy(0.063, just_below(0.0625), 1.0), 11, 1);
 }
 
 #[test]

@@ -19,6 +19,11 @@ fn hours_line() -> Line {
     Line { reuse: 950, ..Line::direct(16_250_000).treated(1, 1, [7920.0, 7920.0, 0.0]) }
 }
 
+/// A run above the production.
+fn outran_line() -> Line {
+    Line { reuse: 950, ..Line::direct(16_250_000).treated(2, 1, [7920.001, 7920.0, 0.0]) }
+}
+
 fn energy_line() -> Line {
     let line = Line::direct(1_000_000).treated(9, 2, [900.0, 0.5, 3600.0]);
     Line { place: [3240, 1, 1, 2], ..line }
@@ -47,7 +52,7 @@ const HOURS_FAULTS: [LineFault; 11] = [
     (8, |line| line.kind = 2),
     (9, |line| line.readings[0] = f64::NAN.to_bits()),
     (10, |line| line.readings[1] = 0.0004f64.to_bits()),
-    (11, |line| line.readings[0] = 7920.001f64.to_bits()),
+    (9, |line| line.readings[0] = 8784.001f64.to_bits()),
 ];
 
 const ENERGY_FAULTS: [LineFault; 12] = [
@@ -70,15 +75,19 @@ fn with_faults(mut line: Line, faults: &[LineFault]) -> Line {
     line
 }
 
-/// The two lists of faults, each with the sound line they spoil.
-fn fault_lists() -> [(Line, &'static [LineFault]); 2] {
-    [(hours_line(), &HOURS_FAULTS), (energy_line(), &ENERGY_FAULTS)]
+/// The lists of faults, each with a sound line that they spoil.
+fn fault_lists() -> [(Line, &'static [LineFault]); 3] {
+    [
+        (hours_line(), &HOURS_FAULTS),
+        (outran_line(), &HOURS_FAULTS),
+        (energy_line(), &ENERGY_FAULTS),
+    ]
 }
 
 #[test]
 fn sound_lines_are_accepted() {
     let mut tally = Tally::new("sound_lines_are_accepted");
-    tally.expect_accepted(&case(vec![hours_line(), energy_line(), hours_line()]));
+    tally.expect_accepted(&case(vec![hours_line(), energy_line(), outran_line()]));
 }
 
 #[test]
@@ -152,7 +161,7 @@ fn a_row_without_techniques_takes_direct_discharge_only() {
 #[test]
 fn kinds_go_with_their_k_rules() {
     let mut tally = Tally::new("kinds_go_with_their_k_rules");
-    for (sound, its_kind) in [(hours_line(), 1), (energy_line(), 2)] {
+    for (sound, its_kind) in [(hours_line(), 1), (outran_line(), 1), (energy_line(), 2)] {
         for kind in 0..=3 {
             let case = case(vec![Line { kind, ..sound }]);
             match kind == its_kind || kind == 3 {

@@ -69,7 +69,7 @@ impl Refusal {
             Refusal::ZeroDivisor => {
                 (10, "production hours, rated kW or energy run hours 0 as thousandths")
             }
-            Refusal::KAboveOne => (11, "k above 1"),
+            Refusal::KAboveOne => (11, "energy above what the rating allows: k above 1"),
             Refusal::BundleMalformed => (16, "bundle malformed or over a limit"),
             Refusal::Unnamed(number) => (number, "a refusal that has no name here"),
         }

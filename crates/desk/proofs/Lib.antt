@@ -5,6 +5,7 @@ pub mod LawOrder
 pub mod LawRow
 pub mod LawTechnique
 pub mod LawAccount
+pub mod LawOutran
 pub mod LawTable
 pub mod LawDeclare
 pub mod LawDemands

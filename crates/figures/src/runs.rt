@@ -66,6 +66,7 @@ pub(crate) fn runs() {
     run(b"over-hours/book.bin", b"over-hours/sheet.bin");
     run(b"over-kilograms/book.bin", b"over-kilograms/sheet.bin");
     run(b"over-production/book.bin", b"over-production/sheet.bin");
+    run(b"over-rating/book.bin", b"over-rating/sheet.bin");
 }
 
 pub(crate) fn bundle_runs() {

@@ -1,13 +1,12 @@
 -- k is a fraction of at most 1 whose divisor is small.
-use Prim.Native.Nat.{ℕ, zero, suc, _*_, _≤_, _<_}
-use mathlib.Core.Bool.{false}
-use mathlib.Core.Path.{_≡_, refl}
+use Prim.Native.Nat.{ℕ, _*_, _≤_, _<_}
+use mathlib.Core.Path.{_≡_, refl, sym, _∙_}
 use mathlib.Core.List.{[], _∷_}
 use mathlib.Core.Logic.{⊎-elim}
-use native.Mathlib.Nat.{mul-le-mul}
+use native.Mathlib.Nat.{mul-le-mul, pos-of-ne-zero}
 use native.Mathlib.Omega.{arith}
 use lib.Dec.{leb, eqb}
-use borrow.Author.Tests.{leb-true}
+use borrow.Author.Tests.{eqb-true, eqb-false, leb-true, leb-false, eq-eqb, ne-eqb, le-leb, lt-leb}
 use denote.Enum.Declared.{tagOf}
 use types.Run.{OneOf}
 use Rattle.search.proofs.LawTest.{clash, either-way}
@@ -18,8 +17,8 @@ use Rattle.amounts.specs.Reading.{partsPerUnit}
 use Rattle.amounts.proofs.LawReading.{taken-most}
 use Rattle.amounts.proofs.reading.Taken.{the-type}
 use Rattle.answers.specs.declared.answer.LineFault.the-variants.{WrongKind, BadReading, ZeroDivisor, KAboveOne}
-use Rattle.shares.specs.Share.{mostHours, mostKilowatts, hoursOf, kwOf, kwhOf, ratio, ifTaken, hoursShare, energyShare}
-use Rattle.shares.specs.Share.{goesWith, shareOf, shareBy}
+use Rattle.shares.specs.Share.{mostHours, mostKilowatts, hoursOf, kwOf, kwhOf, ratio, exactlyOne, ifTaken}
+use Rattle.shares.specs.Share.{goesWith, hoursShare, energyShare, shareOf, shareBy}
 use Rattle.shares.specs.declared.share.Reading.{Reading}
 use Rattle.shares.specs.declared.share.Reading.the-variants.{None, Hours, Energy, Throughout}
 use Rattle.shares.specs.declared.share.Share.{Share}
@@ -36,27 +35,54 @@ not-taken (Is t) f h = absurd (⊎-elim (λ (e : _≡_ {A = ℕ} 0 1). omega ari
 not-taken Over f h = refl
 not-taken Bad f h = refl
 
+-- ---- n over d, by its three cases
+
+module _ (n d : ℕ) (excess : Share) where
+  pub no-divisor : d ≡ 0 → ratio n d excess ≡ NoShare ZeroDivisor
+  unfolding ratio
+  no-divisor none = rw (eq-eqb d 0 none)
+
+  pub within : (d ≡ 0 → ⊥) → n ≤ d → ratio n d excess ≡ Part n d
+  unfolding ratio
+  within some most = rw (ne-eqb d 0 some, le-leb n d most)
+
+  pub beyond : (d ≡ 0 → ⊥) → d < n → ratio n d excess ≡ excess
+  unfolding ratio
+  beyond some above = rw (ne-eqb d 0 some, lt-leb n d above)
+
+  -- there are no others
+  pub by-case : {P : Type 0} → (ratio n d excess ≡ NoShare ZeroDivisor → P) → ((d ≡ 0 → ⊥) → n ≤ d → ratio n d excess ≡ Part n d → P)
+      → (d < n → ratio n d excess ≡ excess → P) → P
+  by-case none part more =
+      either-way (eqb d 0)
+      (λ z. none (no-divisor (eqb-true d 0 z)))
+      (λ z. either-way (leb n d)
+      (λ l. part (eqb-false d 0 z) (leb-true n d l) (within (eqb-false d 0 z) (leb-true n d l)))
+      (λ l. more (leb-false n d l) (beyond (eqb-false d 0 z) (leb-false n d l))))
+
+-- ---- a share is fair
+
 pub record Fair (n d : ℕ) : Type 0 where
   pub fraction : n ≤ d
   pub divisor : 0 < d
   pub size : d ≤ mostDivisor
 
-positive : (d : ℕ) → eqb d 0 ≡ false → 0 < d
-positive zero h = clash (cc)
-positive (suc d) h = omega arith
+one-fair : (n d : ℕ) → exactlyOne ≡ Part n d → Fair n d
+one-fair n d h =
+    let p : 1 ≡ n = cc in
+    let q : 1 ≡ d = cc in
+    record { fraction = omega arith; divisor = omega arith; size = omega arith }
 
-ratio-fair : (a b n d : ℕ) → b ≤ mostDivisor → ratio a b ≡ Part n d → Fair n d
-unfolding ratio
-ratio-fair a b n d small h =
-    either-way (eqb b 0)
-    (λ z. let r : NoShare ZeroDivisor ≡ Part n d = rw z at h in clash (cc))
-    (λ z. either-way (leb a b)
-    (λ l.
-    let r : Part a b ≡ Part n d = rw (z, l) at h in
+ratio-fair : (a b n d : ℕ) (excess : Share) → b ≤ mostDivisor → (excess ≡ Part n d → Fair n d) → ratio a b excess ≡ Part n d → Fair n d
+ratio-fair a b n d excess small fair h =
+    by-case a b excess
+    (λ e. let r : NoShare ZeroDivisor ≡ Part n d = sym e ∙ h in clash (cc))
+    (λ some most e.
+    let r : Part a b ≡ Part n d = sym e ∙ h in
     let p : a ≡ n = cc in
     let q : b ≡ d = cc in
-    record { fraction = omega (arith, leb-true a b l); divisor = omega (arith, positive b z); size = omega arith })
-    (λ l. let r : NoShare KAboveOne ≡ Part n d = rw (z, l) at h in clash (cc)))
+    record { fraction = omega arith; divisor = omega (arith, pos-of-ne-zero some); size = omega arith })
+    (λ above e. fair (sym e ∙ h))
 
 -- where a share comes out, the reading was taken
 part-taken : {P : Type 0} (x : Taken) (f : ℕ → Share) (n d : ℕ) → ifTaken x f ≡ Part n d → ((t : ℕ) → x ≡ Is t → f t ≡ Part n d → P) → P
@@ -71,7 +97,7 @@ of-fair None n d h = clash (cc)
 of-fair (Hours run production) n d h =
     part-taken (hoursOf run) _ n d h
     (λ a p g. part-taken (hoursOf production) _ n d g
-    (λ b q r. ratio-fair a b n d (omega (arith, taken-most partsPerUnit mostHours b production q)) r))
+    (λ b q r. ratio-fair a b n d exactlyOne (omega (arith, taken-most partsPerUnit mostHours b production q)) (one-fair n d) r))
 of-fair (Energy e) n d h =
     part-taken (kwhOf (e .kwh)) _ n d h
     (λ kwh p g. part-taken (kwOf (e .kw)) _ n d g
@@ -79,11 +105,9 @@ of-fair (Energy e) n d h =
     (λ hours s v.
     let most : kw * hours ≤ partsPerUnit * mostKilowatts * (partsPerUnit * mostHours) =
     mul-le-mul (taken-most partsPerUnit mostKilowatts kw (e .kw) q) (taken-most partsPerUnit mostHours hours (e .hours) s) in
-    ratio-fair (kwh * partsPerUnit) (kw * hours) n d (omega arith) v)))
-of-fair Throughout n d h =
-    let p : 1 ≡ n = cc in
-    let q : 1 ≡ d = cc in
-    record { fraction = omega arith; divisor = omega arith; size = omega arith }
+    let refused : NoShare KAboveOne ≡ Part n d → Fair n d = λ w. clash (cc) in
+    ratio-fair (kwh * partsPerUnit) (kw * hours) n d (NoShare KAboveOne) (omega arith) refused v)))
+of-fair Throughout n d h = one-fair n d h
 
 pub share-fair : (reading : Reading) (rule n d : ℕ) → shareBy reading rule ≡ Part n d → Fair n d
 unfolding shareBy

@@ -1,1 +1,2 @@
+pub mod LawExcess
 pub mod LawShare

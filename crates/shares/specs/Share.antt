@@ -40,9 +40,22 @@ kwOf x = takenOf partsPerUnit mostKilowatts x
 abbrev pub kwhOf : Float → Taken
 kwhOf x = takenOf partsPerUnit mostKilowattHours x
 
--- k, which has a divisor and is not above 1
-unfoldable pub ratio : ℕ → ℕ → Share
-ratio n d = cond (eqb d 0) (NoShare ZeroDivisor) (cond (leb n d) (Part n d) (NoShare KAboveOne))
+-- n over d, where there is a divisor and n is not above it; an n above d is answered with `excess`
+unfoldable pub ratio : (n d : ℕ) (excess : Share) → Share
+ratio n d excess = cond (eqb d 0) (NoShare ZeroDivisor) (cond (leb n d) (Part n d) excess)
+
+-- k is exactly 1
+abbrev pub exactlyOne : Share
+exactlyOne = Part 1 1
+
+-- k for hours, run / production: exactly 1 where the fan ran longer than the furnace
+abbrev pub kForHours : (run production : ℕ) → Share
+kForHours run production = ratio run production exactlyOne
+
+-- k for energy, kWh × the parts of a unit / (kW × hours), all in parts: refused where it is more than the rating plate allows;
+-- the divisor is 0 exactly when kW or hours are
+abbrev pub kForEnergy : (kwh kw hours : ℕ) → Share
+kForEnergy kwh kw hours = ratio (kwh * partsPerUnit) (kw * hours) (NoShare KAboveOne)
 
 -- what comes of a reading, unless it is bad or over its limit
 unfoldable pub ifTaken : Taken → (ℕ → Share) → Share
@@ -50,21 +63,20 @@ ifTaken (Is t) f = f t
 ifTaken Over f = NoShare BadReading
 ifTaken Bad f = NoShare BadReading
 
--- run / production
+-- of run and production hours
 unfoldable pub hoursShare : Float → Float → Share
-hoursShare run production = ifTaken (hoursOf run) (λ n. ifTaken (hoursOf production) (λ d. ratio n d))
+hoursShare run production = ifTaken (hoursOf run) (λ n. ifTaken (hoursOf production) (λ d. kForHours n d))
 
--- kWh × the parts of a unit / (kW × hours), all in parts; the divisor is 0 exactly when kW or hours are
+-- of the three numbers of an energy reading
 unfoldable pub energyShare : EnergyReading → Share
 energyShare e =
-    ifTaken (kwhOf (e .kwh))
-    (λ kwh. ifTaken (kwOf (e .kw)) (λ kw. ifTaken (hoursOf (e .hours)) (λ hours. ratio (kwh * partsPerUnit) (kw * hours))))
+    ifTaken (kwhOf (e .kwh)) (λ kwh. ifTaken (kwOf (e .kw)) (λ kw. ifTaken (hoursOf (e .hours)) (λ hours. kForEnergy kwh kw hours)))
 
 unfoldable pub shareOf : Reading → Share
 shareOf None = NoShare WrongKind
 shareOf (Hours run production) = hoursShare run production
 shareOf (Energy e) = energyShare e
-shareOf Throughout = Part 1 1
+shareOf Throughout = exactlyOne
 
 -- k by a reading of a kind that goes with the k rule
 unfoldable pub shareBy : (reading : Reading) (rule : ℕ) → Share

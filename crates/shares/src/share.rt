@@ -47,17 +47,14 @@ fn goes_with(reading: Reading, rule: usize) -> bool
     }
 }
 
-fn ratio(n: u64, d: u64) -> Share
-    ensures { λ r. ⌜ r ≡ ratio n d ⌝ }
+// n over d where there is a divisor; for an n above d the caller says what is answered.
+fn ratio(n: u64, d: u64, excess: Share) -> Share
+    ensures { λ r. ⌜ r ≡ ratio n d excess ⌝ }
 {
     if d == 0 {
         return Share::NoShare(LineFault::ZeroDivisor);
     }
-    if n <= d {
-        Share::Part(n, d)
-    } else {
-        Share::NoShare(LineFault::KAboveOne)
-    }
+    if n <= d { Share::Part(n, d) } else { excess }
 }
 
 fn hours_share(run: f64, production: f64) -> Share
@@ -69,7 +66,8 @@ fn hours_share(run: f64, production: f64) -> Share
     let Taken::Is(d) = parts_of(production, MOST_HOURS) else {
         return Share::NoShare(LineFault::BadReading);
     };
-    ratio(n, d)
+    // A fan that runs longer than the furnace runs for all of the production.
+    ratio(n, d, Share::Part(1, 1))
 }
 
 fn energy_share(e: EnergyReading) -> Share
@@ -84,7 +82,9 @@ fn energy_share(e: EnergyReading) -> Share
     let Taken::Is(hours) = parts_of(e.hours, MOST_HOURS) else {
         return Share::NoShare(LineFault::BadReading);
     };
-    ratio(kwh * PARTS_PER_UNIT, kw * hours)
+    // Nothing uses more than its rating allows, so the plate was misread.
+    let over_rating = Share::NoShare(LineFault::KAboveOne);
+    ratio(kwh * PARTS_PER_UNIT, kw * hours, over_rating)
 }
 
 // Of the reading alone; no reading is of no kind that goes with a rule.
@@ -100,7 +100,8 @@ fn share_of(reading: Reading) -> Share
 }
 
 // k for a row of the book with this k rule, 1 hours or 2 energy. The kind is looked at first, then the numbers in their order, then the
-// divisor, then whether k is above 1. Under any other rule every reading is of the wrong kind.
+// divisor, then whether k is above 1: with hours it is then exactly 1, with energy it is refused. Under any other rule every reading is of
+// the wrong kind.
 pub fn share_by(reading: Reading, rule: usize) -> Share
     ensures { λ r. ⌜ r ≡ shareBy reading rule ⌝ }
 {

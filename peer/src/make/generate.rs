@@ -164,7 +164,8 @@ fn line(random: &mut Random, book: &Book, rows: &[&Row]) -> Line {
     Line { technique: book.techniques[at].code, kind, readings, ..line }
 }
 
-/// A kind and readings that go with the k rule and give a k of at most 1.
+/// A kind and readings that go with the k rule and are taken: an energy within
+/// its rating, and a run that is now and then above the production.
 fn reading(random: &mut Random, k_rule: u8) -> (u8, [u64; 3]) {
     let unused = random.bits();
     if random.chance(15) {
@@ -172,7 +173,8 @@ fn reading(random: &mut Random, k_rule: u8) -> (u8, [u64; 3]) {
     }
     let hours = 1 + random.up_to(8_783_999);
     if k_rule == 1 {
-        let run = random.up_to(hours);
+        let most = if random.chance(25) { 8_784_000 } else { hours };
+        let run = random.up_to(most);
         return (1, [near_thousandths(random, run), near_thousandths(random, hours), unused]);
     }
     let rated = 1 + random.up_to(9_999_999);

@@ -26,23 +26,32 @@ pub fn k(rule: u8, kind: u8, readings: [u64; 3]) -> Result<Fraction, u32> {
         HOURS if rule == 1 => {
             let run = within(a, MOST_HOURS)?;
             let production = within(b, MOST_HOURS)?;
-            at_most_one(run, production)
+            k_for_hours(run, production)
         }
         ENERGY if rule == 2 => {
             let energy = within(a, MOST_KILOWATT_HOURS)?;
             let rated = within(b, MOST_KILOWATTS)?;
             let hours = within(c, MOST_HOURS)?;
-            at_most_one(energy * 1000, rated * hours)
+            k_for_energy(energy * 1000, rated * hours)
         }
         _ => Err(WRONG_KIND),
     }
 }
 
-fn at_most_one(n: u64, d: u64) -> Result<Fraction, u32> {
-    match d {
+/// A fan that runs longer than the furnace counts for the furnace's hours.
+fn k_for_hours(run: u64, production: u64) -> Result<Fraction, u32> {
+    match production {
         0 => Err(ZERO_DIVISOR),
-        _ if n > d => Err(K_ABOVE_ONE),
-        _ => Ok(Fraction { n, d }),
+        hours => Ok(Fraction { n: run.min(hours), d: hours }),
+    }
+}
+
+/// More than the rating allows means a wrong rating plate.
+fn k_for_energy(used: u64, rated: u64) -> Result<Fraction, u32> {
+    match rated {
+        0 => Err(ZERO_DIVISOR),
+        _ if used > rated => Err(K_ABOVE_ONE),
+        _ => Ok(Fraction { n: used, d: rated }),
     }
 }
 

@@ -11,7 +11,7 @@ const MEDIA: [&str; 3] = ["water", "gas", "solids"];
 const WATER: u8 = 1;
 const GRAM: f64 = 100_000.0;
 
-/// One line as an officer has it: efficiency and reuse in percent, hours that
+/// One line as an officer has it: efficiency and reuse in percent, numbers that
 /// are missing 0.
 #[derive(Clone, Copy, Default)]
 struct Works {
@@ -88,7 +88,7 @@ impl Works {
         Some(Worked { amounts, thousandths: (1000.0 * self.run).round(), answer: "figures".into() })
     }
 
-    /// A line without any hours has no reading.
+    /// A line with a rating is by energy; one without any hours has no reading.
     fn filled_by_desk(&self) -> Filled {
         let (kind, readings) = match (self.run, self.production) {
             _ if self.by_energy() => (2, [self.energy, self.rated, self.run]),

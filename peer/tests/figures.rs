@@ -105,8 +105,7 @@ fn document_002_runs_throughout() {
     check(&mut Tally::new("document_002_runs_throughout"), &figure, 2);
 }
 
-/// 8784 hours, 10^9 kg and 8000 of 8000 hours are taken; a little more isn't,
-/// but a run of more than the production hours is.
+/// 8784 hours and 10^9 kg are taken, and a little more isn't.
 #[test]
 fn the_limits_of_the_paper() {
     let mut tally = Tally::new("the_limits_of_the_paper");
@@ -119,10 +118,28 @@ fn the_limits_of_the_paper() {
     };
     tally.expect_accepted(&case(&line(5, 8784.0, 8784.0), 1));
     tally.expect_refused(&case(&line(5, 8784.0, 8784.001), 1), 9, 1);
+    tally.expect_refused(&case(&line(5, 8784.001, 8784.0), 1), 9, 1);
     tally.expect_accepted(&case(&line(1_000_000_000, 8.0, 9.0), 1));
     tally.expect_refused(&case(&line(1_000_000_001, 8.0, 9.0), 1), 4, 1);
-    tally.expect_accepted(&case(&line(5, 8000.0, 8000.0), 1));
-    tally.expect_accepted(&case(&line(5, 8000.001, 8000.0), 1));
+}
+
+/// A run of more than the production hours removes as much as one of all of
+/// them; an energy of a thousandth more than the rating allows is refused.
+#[test]
+fn runs_of_all_the_production_hours_and_more() {
+    let mut tally = Tally::new("runs_of_all_the_production_hours_and_more");
+    let figure = |reading| Figure {
+        amount: units(1_000_000_000),
+        efficiency: 700,
+        reading,
+        reuse: 0,
+        expected: [1_000_000_000, 700_000_000, 0, 300_000_000],
+    };
+    for (run, production) in [(8000.0, 8000.0), (8000.001, 8000.0), (8784.0, 0.001)] {
+        check(&mut tally, &figure((1, [run, production, 0.0])), 1);
+    }
+    check(&mut tally, &figure((2, [1800.0, 0.5, 3600.0])), 1);
+    tally.expect_refused(&case(&figure((2, [1800.001, 0.5, 3600.0])), 1), 11, 1);
 }
 
 /// A reading's thousandths seen through k = reading / 1000 hours and G = 10^9.
@@ -243,10 +260,12 @@ struct Change {
 }
 
 fn change(folder: &str) -> Option<Change> {
-    let hours = 8784.001f64.to_le_bytes();
     let change = |of, file, at, bytes| Some(Change { of, file, at, bytes });
     match folder {
-        "over-hours" => change("limits", "sheet.bin", 16 + 32, [hours, hours].concat()),
+        "over-hours" => {
+            let run = 8784.001f64.to_le_bytes();
+            change("limits", "sheet.bin", 16 + 32, run.to_vec())
+        }
         "over-kilograms" => {
             let kilograms = 1_000_000_001u64.to_le_bytes();
             change("limits", "sheet.bin", 16 + 64 + 16, kilograms.to_vec())

@@ -96,19 +96,15 @@ fn exact(tally: &mut Tally, case: &Case) -> Vec<u64> {
 /// Half a thousandth.
 const HALF: f64 = 0.0005;
 
-fn just_below(number: f64) -> f64 {
-    f64::from_bits(number.to_bits() - 1)
-}
-
-/// At the production hours and above them the amounts are those of a treatment
-/// that ran throughout; a thousandth below less is removed.
+/// Where the run reads as the production hours or more, the amounts are those
+/// of a treatment that ran throughout; a thousandth below less is removed.
 #[test]
 fn runs_around_the_production() {
     let mut tally = Tally::new("runs_around_the_production");
     let throughout = exact(&mut tally, &case(1, 3, [0; 3]));
     for production in [0.001, 0.002, 0.062, 1.0, 4000.0, 8000.0, 8783.998] {
-        let above = [0.0, 0.98 * HALF, 1.02 * HALF, 0.001, 0.002, 8784.0 - production];
-        for run in above.map(|excess| production + excess) {
+        let around = [-0.98 * HALF, 0.0, 0.98 * HALF, 1.02 * HALF, 0.001, 0.002];
+        for run in around.map(|excess| production + excess).into_iter().chain([8784.0]) {
             assert_eq!(exact(&mut tally, &hours(run, production)), throughout, "{run}");
         }
         let less = exact(&mut tally, &hours(production - 0.001, production));
@@ -123,7 +119,7 @@ fn runs_around_the_production() {
 fn runs_at_a_tie_around_the_production() {
     let mut tally = Tally::new("runs_at_a_tie_around_the_production");
     let throughout = exact(&mut tally, &case(1, 3, [0; 3]));
-    let before = just_below(0.0625);
+    let before = 0.0625f64.next_down();
     for (run, production) in [(before, 0.062), (0.0625, 0.062), (0.0625, 0.063), (0.063, 0.0625)] {
         assert_eq!(exact(&mut tally, &hours(run, production)), throughout, "{run} {production}");
     }
@@ -132,7 +128,6 @@ fn runs_at_a_tie_around_the_production() {
     assert!(below[1] < throughout[1]);
 }
 
-/// 9 and 10 come before a run is held against the production.
 #[test]
 fn runs_over_the_limit_are_bad_whatever_the_production() {
     let mut tally = Tally::new("runs_over_the_limit_are_bad_whatever_the_production");
@@ -140,11 +135,20 @@ fn runs_over_the_limit_are_bad_whatever_the_production() {
         for run in [8784.001, 8784.0 + 1.02 * HALF, 10_000.0, 1e300, f64::INFINITY] {
             tally.expect_refused(&hours(run, production), 9, 1);
         }
-        tally.expect_refused(&hours(8784.0, -production - 0.001), 9, 1);
     }
     tally.expect_accepted(&hours(8784.0 + 0.98 * HALF, 0.001));
-    for production in [0.0, 0.98 * HALF] {
-        tally.expect_refused(&hours(8784.0, production), 10, 1);
+}
+
+#[test]
+fn production_hours_are_looked_at_whatever_the_run() {
+    let mut tally = Tally::new("production_hours_are_looked_at_whatever_the_run");
+    for run in [0.0, 0.001, 8000.0, 8784.0] {
+        for production in [-0.001, -1.0, f64::NEG_INFINITY, f64::NAN, 8784.001] {
+            tally.expect_refused(&hours(run, production), 9, 1);
+        }
+        for production in [0.0, -0.0, 0.98 * HALF] {
+            tally.expect_refused(&hours(run, production), 10, 1);
+        }
     }
 }
 
@@ -153,14 +157,14 @@ fn runs_over_the_limit_are_bad_whatever_the_production() {
 fn energies_around_the_rating() {
     let mut tally = Tally::new("energies_around_the_rating");
     let throughout = exact(&mut tally, &case(2, 3, [0; 3]));
-    for (rated, hours) in [(0.5, 3600.0), (0.001, 1000.0), (10_000.0, 1000.0), (77.0, 8784.0)] {
-        let most = rated * hours;
-        for used in [most, most + 0.98 * HALF] {
-            assert_eq!(exact(&mut tally, &energy(used, rated, hours)), throughout, "{used}");
+    for (rated, ran) in [(0.5, 3600.0), (0.001, 1000.0), (10_000.0, 1000.0), (77.0, 8784.0)] {
+        let most = rated * ran;
+        for used in [most - 0.98 * HALF, most, most + 0.98 * HALF] {
+            assert_eq!(exact(&mut tally, &energy(used, rated, ran)), throughout, "{used}");
         }
-        let less = exact(&mut tally, &energy(most - 0.001, rated, hours));
+        let less = exact(&mut tally, &energy(most - 0.001, rated, ran));
         assert!(less[1] < throughout[1], "{most}");
-        let above = |excess| energy(most + excess, rated, hours);
+        let above = |excess| energy(most + excess, rated, ran);
         let number = if most < 10_000_000.0 { 11 } else { 9 };
         for excess in [1.02 * HALF, 0.001, 0.002, 1.0] {
             tally.expect_refused(&above(excess), number, 1);
@@ -177,11 +181,11 @@ fn energies_around_the_rating() {
 #[test]
 fn energies_at_a_tie_around_the_rating() {
     let mut tally = Tally::new("energies_at_a_tie_around_the_rating");
-    tally.expect_accepted(&energy(just_below(0.0625), 0.062, 1.0));
+    tally.expect_accepted(&energy(0.0625f64.next_down(), 0.062, 1.0));
     tally.expect_refused(&energy(0.0625, 0.062, 1.0), 11, 1);
     tally.expect_accepted(&energy(0.0625, 0.063, 1.0));
     tally.expect_accepted(&energy(0.063, 0.0625, 1.0));
-    tally.expect_refused(&energy(0.063, just_below(0.0625), 1.0), 11, 1);
+    tally.expect_refused(&energy(0.063, 0.0625f64.next_down(), 1.0), 11, 1);
 }
 
 #[test]

@@ -21,7 +21,7 @@ fn hours_line() -> Line {
 
 /// A run above the production.
 fn outran_line() -> Line {
-    Line { reuse: 950, ..Line::direct(16_250_000).treated(2, 1, [7920.001, 7920.0, 0.0]) }
+    Line { readings: [7920.001, 7920.0, 0.0].map(f64::to_bits), ..hours_line() }
 }
 
 fn energy_line() -> Line {
@@ -39,8 +39,8 @@ fn case(lines: Vec<Line>) -> Case {
 
 type LineFault = (u32, fn(&mut Line));
 
-/// Faults of a line by hours; each touches other fields than the others, so
-/// any two can stand together.
+/// Faults of a line by hours. Those of different numbers touch different
+/// fields, so any two of these can stand together.
 const HOURS_FAULTS: [LineFault; 11] = [
     (4, |line| line.product = 1_000_000_001),
     (4, |line| line.material = u64::MAX),
@@ -51,8 +51,8 @@ const HOURS_FAULTS: [LineFault; 11] = [
     (8, |line| line.kind = 0),
     (8, |line| line.kind = 2),
     (9, |line| line.readings[0] = f64::NAN.to_bits()),
-    (10, |line| line.readings[1] = 0.0004f64.to_bits()),
     (9, |line| line.readings[0] = 8784.001f64.to_bits()),
+    (10, |line| line.readings[1] = 0.0004f64.to_bits()),
 ];
 
 const ENERGY_FAULTS: [LineFault; 12] = [
@@ -77,11 +77,7 @@ fn with_faults(mut line: Line, faults: &[LineFault]) -> Line {
 
 /// The lists of faults, each with a sound line that they spoil.
 fn fault_lists() -> [(Line, &'static [LineFault]); 3] {
-    [
-        (hours_line(), &HOURS_FAULTS),
-        (outran_line(), &HOURS_FAULTS),
-        (energy_line(), &ENERGY_FAULTS),
-    ]
+    [(hours_line(), &HOURS_FAULTS), (outran_line(), &HOURS_FAULTS), (energy_line(), &ENERGY_FAULTS)]
 }
 
 #[test]

@@ -16,7 +16,7 @@ use Rattle.shares.specs.Share.{hoursOf, exactlyOne, kForHours, kForEnerg
 use Rattle.shares.specs.Share.{goesWith, hoursShare, shareOf, shareBy}
 use Rattle.shares.specs.declared.share.Reading.the-variants.{Hours, Throughout}
 use Rattle.shares.specs.declared.share.Share.the-variants.{Part, NoShare}
-use Rattle.shares.proofs.LawShare.{taken, beyond, by-case}
+use Rattle.shares.proofs.LawShare.{taken, part-taken, no-divisor, beyond, by-case}
 
 -- ---- hours
 
@@ -68,7 +68,18 @@ hours-never-above-one run production rule h =
     (λ g. never-above (hoursOf run) (hoursOf production) (rw g at h))
     (λ g. let r : NoShare WrongKind ≡ NoShare KAboveOne = rw g at h in clash (cc))
 
--- rule 9 comes before: run hours over their limit are refused, whatever the production
+-- rules 9 and 10 come before: where k comes out of hours, both were read and are within their limit, and the production is not 0
+pub hours-taken : {P : Type 0} (run production : Float) (rule n d : ℕ) → shareBy (Hours run production) rule ≡ Part n d
+    → ((a b : ℕ) → hoursOf run ≡ Is a → hoursOf production ≡ Is b → (b ≡ 0 → ⊥) → P) → P
+unfolding shareBy shareOf hoursShare
+hours-taken run production rule n d h go =
+    either-way (goesWith (Hours run production) rule)
+    (λ g. part-taken (hoursOf run) _ n d (rw g at h)
+    (λ a p v. part-taken (hoursOf production) _ n d v
+    (λ b q w. go a b p q (λ z. let r : NoShare ZeroDivisor ≡ Part n d = sym (no-divisor a b exactlyOne z) ∙ w in clash (cc)))))
+    (λ g. let r : NoShare WrongKind ≡ Part n d = rw g at h in clash (cc))
+
+-- so run hours over their limit are refused with 9, whatever the production
 pub limit-first : (run production : Float) → hoursOf run ≡ Over → shareBy (Hours run production) 1 ≡ NoShare BadReading
 unfolding shareBy goesWith shareOf hoursShare ifTaken
 limit-first run production h = rw h

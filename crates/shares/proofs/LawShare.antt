@@ -85,7 +85,7 @@ ratio-fair a b n d excess small fair h =
     (λ above e. fair (sym e ∙ h))
 
 -- where a share comes out, the reading was taken
-part-taken : {P : Type 0} (x : Taken) (f : ℕ → Share) (n d : ℕ) → ifTaken x f ≡ Part n d → ((t : ℕ) → x ≡ Is t → f t ≡ Part n d → P) → P
+pub part-taken : {P : Type 0} (x : Taken) (f : ℕ → Share) (n d : ℕ) → ifTaken x f ≡ Part n d → ((t : ℕ) → x ≡ Is t → f t ≡ Part n d → P) → P
 unfolding ifTaken
 part-taken (Is t) f n d h go = go t refl h
 part-taken Over f n d h go = clash (cc)

@@ -48,12 +48,12 @@ ratio n d excess = cond (eqb d 0) (NoShare ZeroDivisor) (cond (leb n d) (Part n 
 abbrev pub exactlyOne : Share
 exactlyOne = Part 1 1
 
--- k for hours, run / production: exactly 1 where the fan ran longer than the furnace
+-- k for hours, run / production; run above production hours makes k exactly 1
 abbrev pub kForHours : (run production : ℕ) → Share
 kForHours run production = ratio run production exactlyOne
 
--- k for energy, kWh × the parts of a unit / (kW × hours), all in parts: refused where it is more than the rating plate allows;
--- the divisor is 0 exactly when kW or hours are
+-- k for energy, kWh × the parts of a unit / (kW × hours), all in parts; an excess means a wrong rating plate, and is refused (11).
+-- The divisor is 0 exactly when kW or hours are
 abbrev pub kForEnergy : (kwh kw hours : ℕ) → Share
 kForEnergy kwh kw hours = ratio (kwh * partsPerUnit) (kw * hours) (NoShare KAboveOne)
 

@@ -66,7 +66,7 @@ fn hours_share(run: f64, production: f64) -> Share
     let Taken::Is(d) = parts_of(production, MOST_HOURS) else {
         return Share::NoShare(LineFault::BadReading);
     };
-    // A fan that runs longer than the furnace runs for all of the production.
+    // By the rules a fan that ran longer than the furnace ran for all of the production.
     ratio(n, d, Share::Part(1, 1))
 }
 
@@ -82,7 +82,7 @@ fn energy_share(e: EnergyReading) -> Share
     let Taken::Is(hours) = parts_of(e.hours, MOST_HOURS) else {
         return Share::NoShare(LineFault::BadReading);
     };
-    // Nothing uses more than its rating allows, so the plate was misread.
+    // By the rules an excess of energy means a wrong rating plate.
     let over_rating = Share::NoShare(LineFault::KAboveOne);
     ratio(kwh * PARTS_PER_UNIT, kw * hours, over_rating)
 }

@@ -42,16 +42,16 @@ pub fn k(rule: u8, kind: u8, readings: [u64; 3]) -> Result<Fraction, u32> {
 fn k_for_hours(run: u64, production: u64) -> Result<Fraction, u32> {
     match production {
         0 => Err(ZERO_DIVISOR),
-        hours => Ok(Fraction { n: run.min(hours), d: hours }),
+        _ => Ok(Fraction { n: run.min(production), d: production }),
     }
 }
 
 /// More than the rating allows means a wrong rating plate.
-fn k_for_energy(used: u64, rated: u64) -> Result<Fraction, u32> {
-    match rated {
+fn k_for_energy(used: u64, allowed: u64) -> Result<Fraction, u32> {
+    match allowed {
         0 => Err(ZERO_DIVISOR),
-        _ if used > rated => Err(K_ABOVE_ONE),
-        _ => Ok(Fraction { n: used, d: rated }),
+        _ if used > allowed => Err(K_ABOVE_ONE),
+        _ => Ok(Fraction { n: used, d: allowed }),
     }
 }
 

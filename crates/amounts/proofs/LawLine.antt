@@ -5,7 +5,7 @@ use mathlib.Core.Path.{_≡_, refl, sym, ap, _∙_}
 use mathlib.Core.Bool.{Bool, true, false, _&&_}
 use Prim.Native.Nat.{ℕ, suc, _+_, _-_, _*_, _/_, _%_, _^_, _≤_, _<_}
 use native.Mathlib.Nat.{mul-le-mul, mul-le-mul-right, mul-le-mul-left, mod-lt, div-add-mod', div-le-of-le-mul, mul-assoc, one-mul}
-use native.Mathlib.Nat.{div-div-eq-div-mul, mul-div-mul-right}
+use native.Mathlib.Nat.{div-div-eq-div-mul, mul-div-mul-right, zero-lt-suc}
 use native.Mathlib.Omega.{arith}
 use borrow.Author.Tests.{le-leb, lt-ltb, leb-true, ltb-true}
 use Rattle.amounts.specs.Inner.{Parts, Room}
@@ -76,10 +76,10 @@ removed-most G e n d h k = rw (← removed-is G e n d) (part-most G (e * n) (who
 -- a treatment that ran for all of the production, however long that was
 removed-of-all : (G e d : ℕ) → 0 < d → removedOf G e d d ≡ removedOf G e 1 1
 unfolding removedOf
-removed-of-all G e d p = mul-div-mul-right (G * e) wholeShare p ∙ sym (mul-div-mul-right (G * e) wholeShare (let one : 0 < 1 = omega arith in one))
+removed-of-all G e d p = mul-div-mul-right (G * e) wholeShare p ∙ sym (mul-div-mul-right (G * e) wholeShare (zero-lt-suc 0))
 
 pub amounts-of-all : (G e d u : ℕ) (water : Bool) → 0 < d → amountsOf G e d d u water ≡ amountsOf G e 1 1 u water
-amounts-of-all G e d u water p = rw (removed-of-all G e d p) refl
+amounts-of-all G e d u water p = rw (removed-of-all G e d p)
 
 -- what efficiency leaves over; its share n is below d
 abbrev pub remnant : (G e : ℕ) → ℕ

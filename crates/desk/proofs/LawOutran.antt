@@ -1,19 +1,23 @@
--- A fan that ran longer than its furnace: the line is accounted for as one that ran throughout.
-use Prim.Native.Nat.{ℕ, _<_}
-use mathlib.Core.Path.{_≡_, refl}
+-- A fan that ran longer than its furnace: the line is accounted for as one that ran throughout, and demand 2 reads its k as exactly 1.
+use Prim.Native.Nat.{ℕ, _+_, _<_}
+use mathlib.Core.Path.{_≡_, refl, sym, _∙_}
 use mathlib.Core.List.{List}
 use lib.Ieee.{Float}
+use borrow.Author.Tests.{ne-eqb}
 use Rattle.search.specs.declared.found.Found.{Found}
 use Rattle.search.specs.declared.found.Found.the-variants.{At, Nothing}
+use Rattle.search.proofs.LawTest.{clash}
 use Rattle.amounts.specs.declared.reading.Taken.the-variants.{Is}
 use Rattle.headers.specs.Book.{techniqueBlock}
-use Rattle.shares.specs.Share.{hoursOf, shareBy}
+use Rattle.shares.specs.Share.{hoursOf, goesWith, shareOf, shareBy}
 use Rattle.shares.specs.declared.share.Reading.{Reading}
 use Rattle.shares.specs.declared.share.Reading.the-variants.{Hours, Throughout}
 use Rattle.shares.proofs.LawExcess.{outran-as-throughout}
+use Rattle.desk.specs.Book.{techniqueEfficiency}
 use Rattle.desk.specs.Row.{rowOf}
 use Rattle.desk.specs.Technique.{techniqueIndex}
 use Rattle.desk.specs.Account.{byTechnique, treatmentOf, generatedOf, byTreatment, accountOf}
+use Rattle.desk.specs.Demands.{LineDemand}
 use Rattle.desk.specs.declared.line.Line.{Line}
 use Rattle.desk.specs.declared.row.Row.{Row}
 use Rattle.desk.specs.declared.row.RowSearch.the-variants.{Hit}
@@ -42,22 +46,46 @@ made-alike row line one other (By e n d) = refl
 module _ (t : List ℕ) (row : Row) (one other : Reading) (alike : shareBy one (row .rule) ≡ shareBy other (row .rule)) where
   technique-alike : (place : Found) → byTechnique t row one place ≡ byTechnique t row other place
   technique-alike Nothing = refl
-  technique-alike (At j) = rw alike refl
+  technique-alike (At j) = rw alike
 
   treatment-alike : (technique : ℕ) → treatmentOf t row technique one ≡ treatmentOf t row technique other
   unfolding treatmentOf
-  treatment-alike technique = rw (technique-alike (techniqueIndex t (row .first) (row .techniques) technique)) refl
+  treatment-alike technique = rw (technique-alike (techniqueIndex t (row .first) (row .techniques) technique))
 
 account-alike : (b : List ℕ) (line : Line) (row : Row) (one other : Reading) → rowOf b (line .key) ≡ Hit row
     → shareBy one (row .rule) ≡ shareBy other (row .rule) → accountOf b (withReading line one) ≡ accountOf b (withReading line other)
 unfolding accountOf
 account-alike b line row one other hit alike =
     let same = treatment-alike (techniqueBlock b) row one other alike (line .technique) in
-    rw (hit, same, made-alike row line one other (treatmentOf (techniqueBlock b) row (line .technique) other)) refl
+    rw (hit, same, made-alike row line one other (treatmentOf (techniqueBlock b) row (line .technique) other))
 
--- run and production as thousandths n and d, in a row by hours
-pub outran-line : (b : List ℕ) (line : Line) (row : Row) (run production : Float) (n d : ℕ) → rowOf b (line .key) ≡ Hit row → row .rule ≡ 1
-    → hoursOf run ≡ Is n → hoursOf production ≡ Is d → 0 < d → d < n
-    → accountOf b (withReading line (Hours run production)) ≡ accountOf b (withReading line Throughout)
-outran-line b line row run production n d hit by-hours p q some above =
-    account-alike b line row (Hours run production) Throughout hit (rw by-hours (outran-as-throughout run production n d p q some above))
+-- of a row by hours, 'ran throughout' makes k exactly 1
+throughout-k : (t : List ℕ) (row : Row) (place : Found) (e n d : ℕ) → row .rule ≡ 1 → byTechnique t row Throughout place ≡ By e n d
+    → (n ≡ 1) × (d ≡ 1)
+unfolding shareBy goesWith shareOf
+throughout-k t row Nothing e n d by-hours h = clash (cc)
+throughout-k t row (At j) e n d by-hours h =
+    let r : By (techniqueEfficiency t (row .first + j)) 1 1 ≡ By e n d = rw by-hours at h in
+    (cc, cc)
+
+-- run and production hours that are read as so many parts, the run above the production
+module _ (run production : Float) (more most : ℕ) (ran : hoursOf run ≡ Is more) (produced : hoursOf production ≡ Is most) (some : 0 < most)
+    (above : most < more) where
+  alike : (row : Row) → row .rule ≡ 1 → shareBy (Hours run production) (row .rule) ≡ shareBy Throughout (row .rule)
+  alike row by-hours = rw by-hours (outran-as-throughout run production more most ran produced some above)
+
+  pub outran-line : (b : List ℕ) (line : Line) (row : Row) → rowOf b (line .key) ≡ Hit row → row .rule ≡ 1
+      → accountOf b (withReading line (Hours run production)) ≡ accountOf b (withReading line Throughout)
+  outran-line b line row hit by-hours = account-alike b line row (Hours run production) Throughout hit (alike row by-hours)
+
+  -- k of the exact value that D is held to
+  pub outran-demand : (b : List ℕ) (line : Line) (G R U D : ℕ) (demand : LineDemand b line G R U D) → demand .row .rule ≡ 1
+      → (line .technique ≡ 0 → ⊥) → line .reading ≡ Hours run production → (demand .n ≡ 1) × (demand .d ≡ 1)
+  unfolding treatmentOf
+  outran-demand b line G R U D demand by-hours treated reading =
+      let t = techniqueBlock b in
+      let row = demand .row in
+      let place = techniqueIndex t (row .first) (row .techniques) (line .technique) in
+      let as-hours : byTechnique t row (Hours run production) place ≡ By (demand .efficiency) (demand .n) (demand .d) =
+      rw (ne-eqb (line .technique) 0 treated, reading) at (demand .treated) in
+      throughout-k t row place _ _ _ by-hours (sym (technique-alike t row (Hours run production) Throughout (alike row by-hours) place) ∙ as-hours)

@@ -2,7 +2,7 @@
 -- above the rating is refused.
 use Prim.Native.Nat.{ℕ, _*_, _≤_, _<_}
 use mathlib.Core.Bool.{Bool}
-use mathlib.Core.Path.{_≡_, sym, _∙_}
+use mathlib.Core.Path.{_≡_, refl, sym, _∙_}
 use native.Mathlib.Omega.{arith}
 use lib.Ieee.{Float}
 use Rattle.search.proofs.LawTest.{clash, either-way}
@@ -28,7 +28,7 @@ pub outran-as-throughout : (run production : Float) (n d : ℕ) → hoursOf run 
     → shareBy (Hours run production) 1 ≡ shareBy Throughout 1
 unfolding shareBy goesWith shareOf hoursShare
 outran-as-throughout run production n d p q some above =
-    taken (hoursOf run) n p _ ∙ taken (hoursOf production) d q _ ∙ outran n d some above
+    sym (taken (hoursOf run) _ n _ _ refl p (taken (hoursOf production) _ d _ _ refl q (sym (outran n d some above))))
 
 -- at the production hours and above them the amounts are the same: those of all the hours
 pub all-hours-alike : (G e run production u n d : ℕ) (water : Bool) → 0 < production → production ≤ run → kForHours run production ≡ Part n d

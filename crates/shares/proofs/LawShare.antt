@@ -24,16 +24,22 @@ use Rattle.shares.specs.declared.share.Reading.the-variants.{None, Hours
 use Rattle.shares.specs.declared.share.Share.{Share}
 use Rattle.shares.specs.declared.share.Share.the-variants.{Part, NoShare}
 
--- a reading whose case is the second or the third is refused
-pub taken : (x : Taken) (t : ℕ) → x ≡ Is t → (f : ℕ → Share) → ifTaken x f ≡ f t
-unfolding ifTaken
-taken x t e f = rw e
+-- ---- a reading x, which the rules read as y
 
-pub not-taken : (x : Taken) (f : ℕ → Share) → OneOf (1 ∷ 2 ∷ []) (tagOf the-type x) → NoShare BadReading ≡ ifTaken x f
+-- taken, with what is made of its parts
+pub taken : (x y : Taken) (t : ℕ) (f : ℕ → Share) (k : Share) → x ≡ y → x ≡ Is t → k ≡ f t → k ≡ ifTaken y f
 unfolding ifTaken
-not-taken (Is t) f h = absurd (⊎-elim (λ (e : _≡_ {A = ℕ} 0 1). omega arith) (λ (e : _≡_ {A = ℕ} 0 2). omega arith) h)
-not-taken Over f h = refl
-not-taken Bad f h = refl
+taken x y t f k e is made = rw (← e, is) made
+
+-- in its second case or its third: over its limit, or bad
+pub not-taken : (x y : Taken) (f : ℕ → Share) → x ≡ y → OneOf (1 ∷ 2 ∷ []) (tagOf the-type x) → NoShare BadReading ≡ ifTaken y f
+unfolding ifTaken
+not-taken x y f e h = rw (← e) (refused x h)
+  where
+    refused : (x : Taken) → OneOf (1 ∷ 2 ∷ []) (tagOf the-type x) → NoShare BadReading ≡ ifTaken x f
+    refused (Is t) h = absurd (⊎-elim (λ (e : _≡_ {A = ℕ} 0 1). omega arith) (λ (e : _≡_ {A = ℕ} 0 2). omega arith) h)
+    refused Over h = refl
+    refused Bad h = refl
 
 -- ---- n over d, by its three cases
 

@@ -3,30 +3,31 @@ use mathlib.Core.Path.{sym, _∙_}
 use borrow.Author.Needs.{needs}
 use Rattle.little.proofs.LawNumber.{product-fits}
 use Rattle.amounts.proofs.LawReading.{taken-most}
-use Rattle.shares.specs.Share.{energyShare}
-use Rattle.shares.proofs.LawShare.{not-taken, taken}
+use Rattle.shares.specs.Share.{hoursOf, kwOf, kwhOf, energyShare}
+use Rattle.shares.proofs.LawShare.{taken, not-taken}
 use Rattle.shares.proofs.share.energy_share.Statement.{statement}
 use Rattle.shares.proofs.share.energy_share.Tie as tie
 
 returns : tie.Need-returns
 unfolding energyShare
-returns c = rw (← c .before .parts-of .ensures) (not-taken (c .before .parts-of .result) _ (c .match .keys2))
+returns c = not-taken _ (kwhOf _) _ (c .before .parts-of .ensures) (c .match .keys2)
 
 returns-2 : tie.Need-returns-2
 unfolding energyShare
 returns-2 c =
-    let thousandths = c .before .before .before .before .before .parts-of in
-    let kwh = c .before .before .before .kwh in
-    rw (← thousandths .ensures, taken _ _ (kwh .given .1), ← c .before .parts-of2 .ensures) (not-taken (c .before .parts-of2 .result) _ (c .match2 .keys2))
+    let energy = c .before .before .before .before .before .parts-of in
+    taken _ (kwhOf _) _ _ _ (energy .ensures) (c .before .before .before .kwh .given .1)
+    (not-taken _ (kwOf _) _ (c .before .parts-of2 .ensures) (c .match2 .keys2))
 
 returns-3 : tie.Need-returns-3
 unfolding energyShare
 returns-3 c =
-    let thousandths = c .before .before .before .before .before .before .before .before .before .parts-of in
+    let energy = c .before .before .before .before .before .before .before .before .before .parts-of in
     let kwh = c .before .before .before .before .before .before .before .kwh in
-    let thousandths2 = c .before .before .before .before .before .parts-of2 in
-    let kw = c .before .before .before .kw in
-    rw (← thousandths .ensures, taken _ _ (kwh .given .1), ← thousandths2 .ensures, taken _ _ (kw .given .1), ← c .before .parts-of3 .ensures) (not-taken (c .before .parts-of3 .result) _ (c .match3 .keys2))
+    let rating = c .before .before .before .before .before .parts-of2 in
+    taken _ (kwhOf _) _ _ _ (energy .ensures) (kwh .given .1)
+    (taken _ (kwOf _) _ _ _ (rating .ensures) (c .before .before .before .kw .given .1)
+    (not-taken _ (hoursOf _) _ (c .before .parts-of3 .ensures) (c .match3 .keys2)))
 
 mul-ratio : tie.Need-mul-ratio
 mul-ratio c =
@@ -44,13 +45,14 @@ mul-ratio-2 c =
 returns-4 : tie.Need-returns-4
 unfolding energyShare
 returns-4 c =
-    let thousandths = c .before .before .before .before .before .before .before .before .before .before .before .before .parts-of in
+    let energy = c .before .before .before .before .before .before .before .before .before .before .before .before .parts-of in
     let kwh = c .before .before .before .before .before .before .before .before .before .before .kwh in
-    let thousandths2 = c .before .before .before .before .before .before .before .before .parts-of2 in
+    let rating = c .before .before .before .before .before .before .before .before .parts-of2 in
     let kw = c .before .before .before .before .before .before .kw in
-    let thousandths3 = c .before .before .before .before .parts-of3 in
-    let hours = c .before .before .hours in
-    rw (← thousandths .ensures, taken _ _ (kwh .given .1), ← thousandths2 .ensures, taken _ _ (kw .given .1), ← thousandths3 .ensures, taken _ _ (hours .given .1)) (c .ratio .ensures)
+    let ran = c .before .before .before .before .parts-of3 in
+    taken _ (kwhOf _) _ _ _ (energy .ensures) (kwh .given .1)
+    (taken _ (kwOf _) _ _ _ (rating .ensures) (kw .given .1)
+    (taken _ (hoursOf _) _ _ _ (ran .ensures) (c .before .before .hours .given .1) (c .ratio .ensures)))
 
 pub energy-share-spec : {M : Type 1} → statement M
 energy-share-spec =

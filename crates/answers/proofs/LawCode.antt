@@ -4,16 +4,17 @@ use mathlib.Core.Path.{_≡_, refl}
 use native.Mathlib.Omega.{arith}
 use Rattle.answers.specs.Answer.{fileRule, lineRule, answerNumber, answerLine, numberUnit, codeOf}
 use Rattle.answers.specs.declared.answer.FileFault.{FileFault}
-use Rattle.answers.specs.declared.answer.FileFault.the-variants.{BookMalformed, SheetMalformed, ResultTooShort}
+use Rattle.answers.specs.declared.answer.FileFault.the-variants.{BookMalformed, SheetMalformed, TextMalformed, ResultTooShort}
 use Rattle.answers.specs.declared.answer.LineFault.{LineFault}
 use Rattle.answers.specs.declared.answer.LineFault.the-variants as line
 use Rattle.answers.specs.declared.answer.Outcome.{Outcome}
 use Rattle.answers.specs.declared.answer.Outcome.the-variants.{Accepted, RefusedFile, RefusedLine}
 
 -- a rule's number is at least 1
-file-some : (k : FileFault) → 1 ≤ fileRule k
+pub file-some : (k : FileFault) → 1 ≤ fileRule k
 file-some BookMalformed = omega arith
 file-some SheetMalformed = omega arith
+file-some TextMalformed = omega arith
 file-some ResultTooShort = omega arith
 
 line-some : (k : LineFault) → 1 ≤ lineRule k

@@ -5,10 +5,11 @@ ghost use Rattle.answers.specs.Answer.{answerLine, answerNumber, codeOf,
 // In an answer that is one number a refusal's number is counted in these, so that the line, a u16, stands below it.
 pub const NUMBER_UNIT: u64 = 65536;
 
-// What is wrong with a whole file or a whole result, in the order in which it is looked for.
+// What is wrong with a whole file or a whole result, in the order in which it is looked for. A sheet is a binary one or a text.
 pub enum FileFault {
     BookMalformed,
     SheetMalformed,
+    TextMalformed,
     ResultTooShort,
 }
 
@@ -32,13 +33,14 @@ pub enum Outcome {
 }
 
 impl FileFault {
-    // The number of the broken rule, 1 to 3.
+    // The number of the broken rule, 1 to 3 or 12.
     pub fn number(self) -> u16
         ensures { λ r. ⌜ r ≡ fileRule self ⌝ }
     {
         match self {
             FileFault::BookMalformed => 1,
             FileFault::SheetMalformed => 2,
+            FileFault::TextMalformed => 12,
             FileFault::ResultTooShort => 3,
         }
     }

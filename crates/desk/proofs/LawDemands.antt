@@ -38,13 +38,12 @@ use Rattle.desk.specs.declared.account.Treatment.{Treatment}
 use Rattle.desk.specs.declared.account.Treatment.the-variants.{By, NoTreatment}
 use Rattle.desk.specs.declared.account.LineOutcome.{LineOutcome}
 use Rattle.desk.specs.declared.account.LineOutcome.the-variants.{Given, Refusal}
-use Rattle.answers.specs.declared.answer.FileFault.{FileFault}
-use Rattle.answers.specs.declared.answer.FileFault.the-variants.{BookMalformed, SheetMalformed, ResultTooShort}
 use Rattle.answers.specs.declared.answer.LineFault.{LineFault}
 use Rattle.answers.specs.declared.answer.LineFault.the-variants as of
 use Rattle.answers.specs.declared.answer.Outcome.{Outcome}
 use Rattle.answers.specs.declared.answer.Outcome.the-variants.{Accepted, RefusedFile, RefusedLine}
 use Rattle.desk.specs.declared.cells.TableRow.{TableRow}
+use Rattle.answers.proofs.LawCode.{file-some}
 use Rattle.desk.proofs.LawColumns.{sum-same}
 use Rattle.desk.proofs.LawAccount.{line-sound, line-balances}
 use Rattle.desk.proofs.LawTable.{ready, lines-few}
@@ -54,11 +53,6 @@ use Rattle.desk.proofs.LawDeclare.{line-cell, table-size, sums-right, s
 
 abbrev Numbered : (lines number line : ℕ) → Type 0
 Numbered lines number line = OfFile number line ⊎ OfLine lines number line
-
-file-numbered : (lines : ℕ) (k : FileFault) → Numbered lines (fileRule k) 0
-file-numbered lines BookMalformed = inl (record { first = omega arith; last = omega arith; none = refl })
-file-numbered lines SheetMalformed = inl (record { first = omega arith; last = omega arith; none = refl })
-file-numbered lines ResultTooShort = inl (record { first = omega arith; last = omega arith; none = refl })
 
 line-rules : (k : LineFault) → (4 ≤ lineRule k) × (lineRule k ≤ 11)
 line-rules of.ActivityTooLarge = (omega arith, omega arith)
@@ -70,16 +64,16 @@ line-rules of.BadReading = (omega arith, omega arith)
 line-rules of.ZeroDivisor = (omega arith, omega arith)
 line-rules of.KAboveOne = (omega arith, omega arith)
 
--- a refused line is one of so many
+-- a whole file or result is refused by the first three rules, and a refused line is one of so many
 abbrev Within : (n : ℕ) (r : Outcome) → Type 0
 Within n Accepted = Unit
-Within n (RefusedFile k) = Unit
+Within n (RefusedFile k) = fileRule k ≤ 3
 Within n (RefusedLine k line) = (1 ≤ line) × (line ≤ n)
 
 one-more : (n : ℕ) (r : Outcome) (o : LineOutcome) → Within n r → Within (suc n) (orLine r o n)
 one-more n Accepted (Given row) h = tt
 one-more n Accepted (Refusal k) h = (omega arith, omega arith)
-one-more n (RefusedFile k) o h = tt
+one-more n (RefusedFile k) o h = h
 one-more n (RefusedLine k line) o h = (h .0, omega (arith, h .1))
 
 lines-within : (n : ℕ) (l : ℕ → LineOutcome) → Within n (byLines n l)
@@ -93,13 +87,13 @@ unfolding byFiles
 files-within f room =
     either-way (bookOk (f .book))
     (λ p. either-way (sheetOk (f .sheet))
-    (λ q. either-way (leb (tableSize (lineCount (f .sheet))) room) (λ l. rw (p, q, l) tt) (λ l. rw (p, q, l) tt))
-    (λ q. rw (p, q) tt))
-    (λ p. rw p tt)
+    (λ q. either-way (leb (tableSize (lineCount (f .sheet))) room) (λ l. rw (p, q, l) tt) (λ l. rw (p, q, l) (omega arith)))
+    (λ q. rw (p, q) (omega arith)))
+    (λ p. rw p (omega arith))
 
 both-within : (n : ℕ) (files lines : Outcome) → Within 0 files → Within n lines → Within n (orElseLines files lines)
 both-within n Accepted lines h g = g
-both-within n (RefusedFile k) lines h g = tt
+both-within n (RefusedFile k) lines h g = h
 both-within n (RefusedLine k line) lines h g = (h .0, omega (arith, h .0, h .1))
 
 answer-within : (f : Lent) (room : ℕ) → Within (lineCount (f .sheet)) (answerOf f room)
@@ -109,7 +103,7 @@ answer-within f room =
 
 numbered : (n : ℕ) (r : Outcome) → Within n r → r ≢ Accepted → Numbered n (answerNumber r) (answerLine r)
 numbered n Accepted h refused = absurd (refused refl)
-numbered n (RefusedFile k) h refused = file-numbered n k
+numbered n (RefusedFile k) h refused = inl (record { first = file-some k; last = h; none = refl })
 numbered n (RefusedLine k line) h refused = let rule = line-rules k in inr (record { first = rule .0; last = rule .1; some = h .0; within = h .1 })
 
 -- an answer's line is one of a good sheet, or 0

@@ -1,5 +1,6 @@
 pub mod LawBook
 pub mod LawColumns
+pub mod LawFound
 pub mod LawRun
 pub mod LawOrder
 pub mod LawRow

@@ -5,6 +5,7 @@ pub mod Row
 pub mod Technique
 pub mod Sheet
 pub mod Line
+pub mod Found
 pub mod Cells
 pub mod Account
 pub mod Tally

@@ -4,6 +4,7 @@ ghost use Prim.Native.Nat.{_≤_, _+_};
 ghost use lib.ListN.{length};
 ghost use Rattle.desk.specs.Inner.{LineIn, LineThere, ReadsLine};
 ghost use Rattle.desk.specs.Line.{floatAt, readingAt, lineOf};
+ghost use Rattle.desk.specs.Found.{sheetLine};
 use super::inside::byte_in;
 use super::inside::u16_in;
 use super::inside::u64_in;
@@ -11,6 +12,8 @@ use super::key::Key;
 use super::key::key_from;
 use super::sheet::line_start;
 use amounts::reading::from_bits;
+use headers::sheet::LINE_SIZE;
+use headers::sheet::line_count;
 use shares::share::EnergyReading;
 use shares::share::Reading;
 
@@ -28,6 +31,12 @@ pub struct Line {
     pub product: u64,
     pub material: u64,
     pub reading: Reading,
+}
+
+// A line whose bytes are there; or not.
+pub enum SheetLine {
+    There(Line),
+    NotThere,
 }
 
 fn float_at(s: &[u8], at: usize, field: usize) -> f64
@@ -74,4 +83,17 @@ pub(crate) fn line_of(s: &[u8], i: usize) -> Line
         material: u64_in(s, at, 24),
         reading: reading_at(s, at),
     }
+}
+
+// Line i of a sheet of any content, counted from 0: there is none where the header states no more lines, or the sheet ends before it does.
+pub fn sheet_line(s: &[u8], i: usize) -> SheetLine
+    ensures { λ r. ⌜ r ≡ sheetLine (now (s .entry)) i ⌝ }
+{
+    if line_count(s) <= i {
+        return SheetLine::NotThere;
+    }
+    if s.len() < line_start(s, i) + LINE_SIZE {
+        return SheetLine::NotThere;
+    }
+    SheetLine::There(line_of(s, i))
 }

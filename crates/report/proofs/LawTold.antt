@@ -13,7 +13,7 @@ use Rattle.search.proofs.LawTest.{clash}
 use Rattle.settle.proofs.LawShown.{shown-length}
 use Rattle.answers.proofs.LawCode.{code-zero, code-number, code-line}
 use Rattle.answers.specs.Answer.{numberUnit, codeOf}
-use Rattle.answers.specs.declared.answer.FileFault.the-variants.{BookMalformed, SheetMalformed, ResultTooShort}
+use Rattle.answers.specs.declared.answer.FileFault.the-variants.{BookMalformed, SheetMalformed, TextMalformed, ResultTooShort}
 use Rattle.answers.specs.declared.answer.LineFault.{LineFault}
 use Rattle.answers.specs.declared.answer.Outcome.{Outcome}
 use Rattle.answers.specs.declared.answer.Outcome.the-variants.{Accepted, RefusedFile, RefusedLine}
@@ -68,6 +68,7 @@ module _ (f : Lent) (exact shown : List ℕ) (answer : Outcome) (exact' shown' :
       go Accepted e = rw (first-exact e, first-shown e) refl
       go (RefusedFile BookMalformed) e = refl
       go (RefusedFile SheetMalformed) e = refl
+      go (RefusedFile TextMalformed) e = refl
       go (RefusedFile ResultTooShort) e = refl
       go (RefusedLine k line) e =
           let r = RefusedLine k line in

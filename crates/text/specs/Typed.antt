@@ -1,0 +1,87 @@
+-- "Sheets typed in a spreadsheet": a text as numbers. The first record has the medium, the pollutant and the shown unit, then one record a
+-- line has its fields in the order of the binary sheet.
+use Prim.Native.Nat.{ℕ}
+use mathlib.Core.Bool.{Bool, true, cond, _&&_}
+use mathlib.Core.List.{List, [], _∷_}
+use mathlib.Core.Option.{Option, none, some}
+use lib.Dec.{leb, eqb}
+use lib.ListN.{length}
+use Rattle.headers.specs.House.{mostBytes}
+use Rattle.headers.specs.Sheet.{mostLines}
+use Rattle.numerals.specs.Numeral.{mostDigits}
+use Rattle.numerals.specs.Typed.{numberIn, decimalIn}
+use Rattle.numerals.specs.declared.typed.Typed.{Typed}
+use Rattle.numerals.specs.declared.typed.Typed.the-variants.{Is, Malformed}
+use Rattle.records.specs.Records.{contentOf, recordsOf}
+
+-- ---- what a field takes: whole numbers up to this one, or a reading, for which 0 stands
+
+abbrev pub aReading : ℕ
+aReading = 0
+
+-- a u16, a u64
+abbrev pub aCode : ℕ
+aCode = 65_535
+
+abbrev pub anAmount : ℕ
+anAmount = 18_446_744_073_709_551_615
+
+-- medium, pollutant, shown unit; none of them is 0
+abbrev pub headerFields : List ℕ
+headerFields = 3 ∷ 255 ∷ 3 ∷ []
+
+-- industry, product, material, process, scale, technique, reuse, kind, product kg, material kg, a, b, c
+abbrev pub lineFields : List ℕ
+lineFields =
+    aCode ∷ aCode ∷ aCode ∷ aCode ∷ aCode ∷ aCode ∷ aCode ∷ 3 ∷ anAmount ∷ anAmount ∷ aReading ∷ aReading ∷ aReading ∷ []
+
+-- the number of a field; of a reading its thousandths
+unfoldable pub fieldNumber : (takes : ℕ) (field : List ℕ) → Typed
+fieldNumber takes field = cond (eqb takes aReading) (decimalIn (contentOf field)) (numberIn mostDigits takes (contentOf field))
+
+-- ---- the numbers of records, where nothing is malformed
+
+abbrev pub followed : (first : Typed) (others : Option (List ℕ)) → Option (List ℕ)
+followed Malformed others = none
+followed (Is n) none = none
+followed (Is n) (some ns) = some (n ∷ ns)
+
+-- a field for each that is asked for, and no other
+unfoldable pub numbersIn : (takes : List ℕ) (record : List (List ℕ)) → Option (List ℕ)
+numbersIn [] [] = some []
+numbersIn [] (field ∷ record) = none
+numbersIn (t ∷ takes) [] = none
+numbersIn (t ∷ takes) (field ∷ record) = followed (fieldNumber t field) (numbersIn takes record)
+
+abbrev pub before : (line : Option (List ℕ)) (others : Option (List (List ℕ))) → Option (List (List ℕ))
+before none others = none
+before (some line) none = none
+before (some line) (some lines) = some (line ∷ lines)
+
+unfoldable pub linesIn : (records : List (List (List ℕ))) → Option (List (List ℕ))
+linesIn [] = some []
+linesIn (record ∷ records) = before (numbersIn lineFields record) (linesIn records)
+
+-- a sheet as it was typed: the header's numbers, and each line's
+pub record TypedSheet : Type 0 where
+  pub header : List ℕ
+  pub lines : List (List ℕ)
+
+abbrev pub noneZero : (numbers : List ℕ) → Bool
+noneZero [] = true
+noneZero (n ∷ numbers) = leb 1 n && noneZero numbers
+
+-- at most 128 lines, and no number of the header is 0
+abbrev pub sheetTyped : (header : Option (List ℕ)) (lines : Option (List (List ℕ))) → Option TypedSheet
+sheetTyped none lines = none
+sheetTyped (some header) none = none
+sheetTyped (some header) (some lines) =
+    cond (noneZero header && leb (length lines) mostLines) (some (record { header = header; lines = lines })) none
+
+abbrev pub sheetIn : (records : List (List (List ℕ))) → Option TypedSheet
+sheetIn [] = none
+sheetIn (header ∷ lines) = sheetTyped (numbersIn headerFields header) (linesIn lines)
+
+-- the sheet that a text of at most 65,536 bytes is
+unfoldable pub typedSheet : (text : List ℕ) → Option TypedSheet
+typedSheet text = cond (leb (length text) mostBytes) (sheetIn (recordsOf text)) none

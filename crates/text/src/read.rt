@@ -1,0 +1,90 @@
+// A text read into a binary sheet.
+ghost use Rattle.text.specs.Convert.{Converts};
+ghost use Rattle.text.specs.Read.{sheetOfText};
+ghost use Rattle.text.specs.Inner.{LinesFound, SheetFound};
+use super::convert::Converted;
+use super::convert::finished;
+use super::convert::refused;
+use super::field::A_READING;
+use super::field::RecordRead;
+use super::field::record;
+use super::words::lay_header;
+use super::words::lay_line;
+use answers::answer::FileFault;
+use answers::answer::Outcome;
+use headers::house::MOST_BYTES;
+use headers::sheet::HEADER_SIZE;
+use headers::sheet::LINE_SIZE;
+use headers::sheet::MOST_LINES;
+
+// The bytes of a sheet that is read from a text, at most.
+pub const MOST_SHEET: usize = HEADER_SIZE + LINE_SIZE * MOST_LINES;
+
+// The largest u16 and u64.
+const A_CODE: u64 = 65535;
+
+const AN_AMOUNT: u64 = 18_446_744_073_709_551_615;
+
+// How many lines were laid; or the text is malformed.
+enum LinesRead {
+    Lines(usize),
+    Broken,
+}
+
+// The records from `at` on, each laid as a line of the sheet; further bytes are dropped where the sheet ends.
+fn lay_lines(text: &[u8], at: usize, sheet: &mut [u8]) -> LinesRead
+    ensures { λ r. ⌜ LinesFound (now (text .entry)) at (now (sheet .entry)) r (now (sheet .exit)) ⌝ }
+{
+    let takes = [
+        A_CODE, A_CODE, A_CODE, A_CODE, A_CODE, A_CODE, A_CODE, 3, AN_AMOUNT, AN_AMOUNT, A_READING, A_READING, A_READING,
+    ];
+    let mut numbers = [0u64; 13];
+    let mut next = at;
+    let mut lines = 0;
+    while next < text.len() {
+        if lines == MOST_LINES {
+            return LinesRead::Broken;
+        }
+        let RecordRead::Next(after) = record(text, next, &takes, &mut numbers) else {
+            return LinesRead::Broken;
+        };
+        lay_line(sheet, lines, &numbers);
+        next = after;
+        lines += 1;
+    }
+    LinesRead::Lines(lines)
+}
+
+// The lines come first, since the header says how many there are.
+fn lay_sheet(text: &[u8], sheet: &mut [u8]) -> LinesRead
+    ensures { λ r. ⌜ SheetFound (now (text .entry)) (now (sheet .entry)) r (now (sheet .exit)) ⌝ }
+{
+    if MOST_BYTES < text.len() {
+        return LinesRead::Broken;
+    }
+    let takes = [3, 255, 3];
+    let mut header = [0u64; 3];
+    let RecordRead::Next(at) = record(text, 0, &takes, &mut header) else {
+        return LinesRead::Broken;
+    };
+    if (header[0] == 0) | (header[1] == 0) | (header[2] == 0) {
+        return LinesRead::Broken;
+    }
+    let LinesRead::Lines(lines) = lay_lines(text, at, sheet) else {
+        return LinesRead::Broken;
+    };
+    lay_header(sheet, &header, lines);
+    LinesRead::Lines(lines)
+}
+
+// The binary sheet of a text of any content and size, at the start of lent bytes of any size: how many bytes it has, and the bytes past it
+// keep their values. Refused is a text that is malformed, or is a sheet that the desk refuses with 2 (12); then one that has no room (3).
+// Every lent byte is then zero. `MOST_SHEET` bytes always have room.
+pub fn sheet_from_text(text: &[u8], sheet: &mut [u8]) -> Converted
+    ensures { λ r. ⌜ Converts (sheetOfText (now (text .entry))) (now (sheet .entry)) r (now (sheet .exit)) ⌝ }
+{
+    match lay_sheet(text, sheet) {
+        LinesRead::Lines(lines) => finished(sheet, HEADER_SIZE + LINE_SIZE * lines),
+        LinesRead::Broken => refused(sheet, Outcome::RefusedFile(FileFault::TextMalformed)),
+    }
+}

@@ -1,1 +1,2 @@
-
+pub mod LawField
+pub mod LawContent

@@ -1,11 +1,11 @@
 -- What ends a field, and what follows it, at a place of the text. Assumes nothing.
 use Prim.Native.Nat.{ℕ, _+_}
 use mathlib.Core.Bool.{Bool, false, cond, _&&_, _||_}
-use mathlib.Core.List.{List}
+use mathlib.Core.List.{List, [], _∷_}
 use lib.Dec.{leb, eqb}
 use lib.ListN.{length}
 use Rattle.little.specs.Read.{byteAt}
-use Rattle.records.specs.Records.{comma, carriageReturn, lineFeed}
+use Rattle.records.specs.Records.{comma, carriageReturn, lineFeed, ended}
 use Rattle.records.specs.declared.field.Behind.{Behind}
 use Rattle.records.specs.declared.field.Behind.the-variants.{Field, Record}
 
@@ -18,3 +18,8 @@ endsField text at quoted =
 unfoldable pub behind : (text : List ℕ) (end : ℕ) → Behind
 behind text end =
     cond (leb (length text) end) (Record end) (cond (eqb (byteAt text end) comma) (Field (end + 1)) (Record (end + 2)))
+
+-- the records behind one, where there are any
+abbrev pub following : (records : List (List (List ℕ))) → List (List (List ℕ))
+following [] = []
+following (r ∷ records) = ended r records

@@ -66,14 +66,14 @@ pieces quoted (byte ∷ text) =
 -- ---- the records of a text
 
 -- one field, and nothing in it
-abbrev pub isBlank : (record : List (List ℕ)) → Bool
+abbrev pub isBlank : (fields : List (List ℕ)) → Bool
 isBlank [] = false
 isBlank ([] ∷ []) = true
 isBlank ([] ∷ g ∷ fields) = false
 isBlank ((b ∷ field) ∷ fields) = false
 
 -- a record and those behind it: the last one's line end may be missing, and where it stands nothing follows it
-unfoldable pub ended : (record : List (List ℕ)) (records : List (List (List ℕ))) → List (List (List ℕ))
+unfoldable pub ended : (fields : List (List ℕ)) (records : List (List (List ℕ))) → List (List (List ℕ))
 ended r [] = cond (isBlank r) [] (r ∷ [])
 ended r (s ∷ records) = r ∷ ended s records
 

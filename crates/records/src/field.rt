@@ -61,7 +61,7 @@ pub fn field_end(text: &[u8], at: usize) -> usize
 
 // What follows a field that ends there: after a comma a field, after a line end a record. Where the text ends the next record would begin
 // there, and there is none.
-pub fn behind(text: &[u8], end: usize) -> Behind
+pub fn what_follows(text: &[u8], end: usize) -> Behind
     ensures { λ r. ⌜ r ≡ behind (now (text .entry)) end ⌝ }
 {
     if text.len() <= end {

@@ -47,11 +47,11 @@ followed (Is n) none = none
 followed (Is n) (some ns) = some (n ∷ ns)
 
 -- a field for each that is asked for, and no other
-unfoldable pub numbersIn : (takes : List ℕ) (record : List (List ℕ)) → Option (List ℕ)
+unfoldable pub numbersIn : (takes : List ℕ) (fields : List (List ℕ)) → Option (List ℕ)
 numbersIn [] [] = some []
-numbersIn [] (field ∷ record) = none
+numbersIn [] (field ∷ fields) = none
 numbersIn (t ∷ takes) [] = none
-numbersIn (t ∷ takes) (field ∷ record) = followed (fieldNumber t field) (numbersIn takes record)
+numbersIn (t ∷ takes) (field ∷ fields) = followed (fieldNumber t field) (numbersIn takes fields)
 
 abbrev pub before : (line : Option (List ℕ)) (others : Option (List (List ℕ))) → Option (List (List ℕ))
 before none others = none
@@ -60,7 +60,7 @@ before (some line) (some lines) = some (line ∷ lines)
 
 unfoldable pub linesIn : (records : List (List (List ℕ))) → Option (List (List ℕ))
 linesIn [] = some []
-linesIn (record ∷ records) = before (numbersIn lineFields record) (linesIn records)
+linesIn (fields ∷ records) = before (numbersIn lineFields fields) (linesIn records)
 
 -- a sheet as it was typed: the header's numbers, and each line's
 pub record TypedSheet : Type 0 where

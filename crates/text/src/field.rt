@@ -8,9 +8,9 @@ use numerals::typed::Typed;
 use numerals::typed::decimal_in;
 use numerals::typed::number_in;
 use records::field::Behind;
-use records::field::behind;
 use records::field::content;
 use records::field::field_end;
+use records::field::what_follows;
 
 // What stands for a reading in a list of the largest numbers that fields take.
 pub(crate) const A_READING: u64 = 0;
@@ -44,10 +44,18 @@ fn followed(number: u64, follows: Behind, last: bool) -> FieldRead
 {
     match follows {
         Behind::Field(next) => {
-            if last { FieldRead::Broken } else { FieldRead::Number(number, next) }
+            if last {
+                FieldRead::Broken
+            } else {
+                FieldRead::Number(number, next)
+            }
         }
         Behind::Record(next) => {
-            if last { FieldRead::Number(number, next) } else { FieldRead::Broken }
+            if last {
+                FieldRead::Number(number, next)
+            } else {
+                FieldRead::Broken
+            }
         }
     }
 }
@@ -60,7 +68,7 @@ fn field_at(text: &[u8], at: usize, takes: u64, last: bool) -> FieldRead
     let Typed::Is(number) = field_number(part(text, at, end - at), takes) else {
         return FieldRead::Broken;
     };
-    followed(number, behind(text, end), last)
+    followed(number, what_follows(text, end), last)
 }
 
 // The numbers of the record that begins at `at`: a field for each that is asked for, and no other.
@@ -71,8 +79,7 @@ pub(crate) fn record(text: &[u8], at: usize, takes: &[u64], numbers: &mut [u64])
     let mut next = at;
     let mut j = 0;
     while j < takes.len() {
-        let FieldRead::Number(number, after) =
-            field_at(text, next, takes[j], j + 1 == takes.len())
+        let FieldRead::Number(number, after) = field_at(text, next, takes[j], j + 1 == takes.len())
         else {
             return RecordRead::Broken;
         };

@@ -36,7 +36,19 @@ fn lay_lines(text: &[u8], at: usize, sheet: &mut [u8]) -> LinesRead
     ensures { λ r. ⌜ LinesFound (now (text .entry)) at (now (sheet .entry)) r (now (sheet .exit)) ⌝ }
 {
     let takes = [
-        A_CODE, A_CODE, A_CODE, A_CODE, A_CODE, A_CODE, A_CODE, 3, AN_AMOUNT, AN_AMOUNT, A_READING, A_READING, A_READING,
+        A_CODE,
+        A_CODE,
+        A_CODE,
+        A_CODE,
+        A_CODE,
+        A_CODE,
+        A_CODE,
+        3,
+        AN_AMOUNT,
+        AN_AMOUNT,
+        A_READING,
+        A_READING,
+        A_READING,
     ];
     let mut numbers = [0u64; 13];
     let mut next = at;

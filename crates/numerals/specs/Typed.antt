@@ -1,6 +1,6 @@
 -- A number as it was typed: a numeral, or a decimal numeral. Assumes nothing.
 use Prim.Native.Nat.{ℕ, _+_, _-_, _*_, _^_}
-use mathlib.Core.Bool.{Bool, true, cond, _&&_}
+use mathlib.Core.Bool.{Bool, true, cond, _&&_, _||_}
 use mathlib.Core.List.{List, [], _∷_}
 use lib.Dec.{leb, eqb}
 use lib.ListN.{length, take, drop}
@@ -9,7 +9,7 @@ use Rattle.search.specs.Test.{every}
 use Rattle.search.specs.First.{first}
 use Rattle.search.specs.declared.found.Found.{Found}
 use Rattle.search.specs.declared.found.Found.the-variants.{At, Nothing}
-use Rattle.numerals.specs.Numeral.{zeroDigit, valueOf}
+use Rattle.numerals.specs.Numeral.{zeroDigit, valueOf, point, thousand}
 use Rattle.numerals.specs.declared.typed.Typed.{Typed}
 use Rattle.numerals.specs.declared.typed.Typed.the-variants.{Is, Malformed}
 
@@ -23,6 +23,14 @@ unfoldable pub allDigits : List ℕ → Bool
 allDigits [] = true
 allDigits (b ∷ bytes) = isDigit b && allDigits bytes
 
+-- the bytes of a decimal numeral
+abbrev pub digitOrPoint : (byte : ℕ) → Bool
+digitOrPoint byte = isDigit byte || eqb byte point
+
+unfoldable pub allDecimal : List ℕ → Bool
+allDecimal [] = true
+allDecimal (b ∷ bytes) = digitOrPoint b && allDecimal bytes
+
 -- 1 to so many digits, leading zeros among them, and a number of at most `most`; no sign, no space, nothing else
 unfoldable pub isNumeral : (digits most : ℕ) (bytes : List ℕ) → Bool
 isNumeral digits most bytes =
@@ -32,9 +40,6 @@ unfoldable pub numberIn : (digits most : ℕ) (bytes : List ℕ) → Typed
 numberIn digits most bytes = cond (isNumeral digits most bytes) (Is (valueOf 0 bytes)) Malformed
 
 -- ---- a decimal numeral, in thousandths: 1 to 11 digits, with or without a point and 1 to 3 more
-
-abbrev pub point : ℕ
-point = 46
 
 abbrev pub wholeDigits : ℕ
 wholeDigits = 11
@@ -49,12 +54,12 @@ mostWhole = 99_999_999_999
 abbrev pub mostPlaces : ℕ
 mostPlaces = 999
 
-abbrev pub thousand : ℕ
-thousand = 1000
-
 -- the point's place
+abbrev pub isPointAt : (bytes : List ℕ) (i : ℕ) → Bool
+isPointAt bytes i = eqb (byteAt bytes i) point
+
 unfoldable pub pointIn : (bytes : List ℕ) → Found
-pointIn bytes = first (length bytes) (λ i. eqb (byteAt bytes i) point)
+pointIn bytes = first (length bytes) (isPointAt bytes)
 
 abbrev pub wholeIn : (bytes : List ℕ) → Typed
 wholeIn bytes = numberIn wholeDigits mostWhole bytes

@@ -9,11 +9,20 @@ use super::bytes::lay;
 // The digits of a number, at most.
 pub const MOST_DIGITS: usize = 20;
 
+// The digit 0 in ASCII; the others follow it in order.
+pub const ZERO_DIGIT: u8 = b'0';
+
+// Between the whole part and the places of a decimal numeral.
+pub const POINT: u8 = b'.';
+
+// The three places of a decimal numeral count thousandths.
+pub const THOUSAND: u64 = 1000;
+
 // The last digit of a number, in ASCII.
 fn last_digit(n: u64) -> u8
     ensures { λ r. ⌜ r ≡ digit n ⌝ }
 {
-    48 + (n % 10) as u8
+    ZERO_DIGIT + (n % 10) as u8
 }
 
 // The digits of a number, with no leading zeros, at the end of as many bytes as any number has; answers where they begin.

@@ -1,10 +1,9 @@
 -- How a loop reads a number as it was typed, from the front, and how large it can be. A digit more never makes a number smaller, so that
 -- the loop may stop where the number passes its limit. Assumes nothing.
-use Prim.Native.Nat.{ℕ, _+_, _-_, _*_, _^_, _≤_, _<_}
-use mathlib.Core.Path.{_≡_, refl, sym, _∙_}
-use mathlib.Core.Bool.{Bool, true, false, cond, _&&_, _||_, and-false}
+use Prim.Native.Nat.{ℕ, _+_, _-_, _*_, _≤_, _<_}
+use mathlib.Core.Path.{_≡_}
+use mathlib.Core.Bool.{true, false, _||_, and-false}
 use mathlib.Core.List.{List, [], _∷_}
-use native.Mathlib.Nat.{pow-suc, mul-le-mul-right}
 use native.Mathlib.Numerals.{add-one}
 use native.Mathlib.Omega.{arith}
 use lib.Dec.{leb, ltb}
@@ -15,7 +14,7 @@ use Rattle.search.proofs.LawTest.{either-way, clash, and-left, and-right, every
 use Rattle.search.specs.Test.{every}
 use Rattle.numerals.specs.Numeral.{zeroDigit, valueOf}
 use Rattle.numerals.specs.Typed.{nineDigit, isDigit, allDigits, isNumeral, numberIn}
-use Rattle.numerals.specs.Inner.{onward, AtMost}
+use Rattle.numerals.specs.Inner.{onward}
 use Rattle.numerals.specs.declared.typed.Typed.the-variants.{Is, Malformed}
 
 -- ---- a numeral

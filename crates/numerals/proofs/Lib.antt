@@ -3,4 +3,5 @@ pub mod LawNumeral
 pub mod LawValue
 pub mod LawTyped
 pub mod LawDecimal
+pub mod LawBack
 pub mod LawWord

@@ -1,9 +1,9 @@
 -- "Reading a binary64 x": as a whole number of parts of its unit, under a limit. Assumes nothing.
 use Prim.Native.Nat.{ℕ, _+_, _*_, _/_, _≤_, _<_}
 use mathlib.Core.Bool.{cond, _&&_}
-use lib.IntN.{ℤ}
+use lib.IntN.{ℤ, pos}
 use lib.Dec.{leb, ltb}
-use lib.Ieee.{Float, nan, inf, fin, up, down}
+use lib.Ieee.{Float, nan, inf, fin, up, down, binary64, ofInt, div, toBits}
 use Rattle.amounts.specs.declared.reading.Taken.{Taken}
 use Rattle.amounts.specs.declared.reading.Taken.the-variants.{Is, Over, Bad}
 
@@ -30,3 +30,11 @@ unfoldable pub takenOf : (F most : ℕ) (x : Float) → Taken
 takenOf F most nan = Bad
 takenOf F most (inf s) = Bad
 takenOf F most (fin s m e) = cond (s && ltb 0 m) Bad (limited (F * most) (nearestParts F m e))
+
+-- t parts as a reading: the binary64 of t, divided once by the parts of a unit
+unfoldable pub ofParts : (t : ℕ) → Float
+ofParts t = div binary64 (ofInt binary64 (pos t)) (ofInt binary64 (pos partsPerUnit))
+
+-- its pattern
+unfoldable pub partsBits : (t : ℕ) → ℕ
+partsBits t = toBits binary64 (ofParts t)

@@ -2,7 +2,7 @@
 ghost use mathlib.Core.Path.{_≡_};
 ghost use lib.Ieee.{binary64, ofBits};
 ghost use Rattle.amounts.specs.Inner.{Split};
-ghost use Rattle.amounts.specs.Reading.{partsPerUnit, takenOf};
+ghost use Rattle.amounts.specs.Reading.{partsBits, partsPerUnit, takenOf};
 
 // Readings are taken in thousandths of their unit.
 pub const PARTS_PER_UNIT: u64 = 1000;
@@ -12,6 +12,9 @@ const ODD: u64 = 125;
 
 // The power of two in twice PARTS_PER_UNIT.
 const SHIFT: u64 = 4;
+
+// PARTS_PER_UNIT as a binary64.
+const UNIT: f64 = 1000.0;
 
 // A binary64's pattern is, from the top, the sign, the exponent's field of 11 bits, and the 52 binary digits that follow the first.
 // The sign alone is negative zero.
@@ -88,4 +91,12 @@ pub fn parts_of(x: f64, most: u32) -> Taken
         return Taken::Bad;
     }
     by_bits(f64::to_bits(x), PARTS_PER_UNIT, ODD, SHIFT, most)
+}
+
+// The pattern of the reading of t parts: the binary64 of t, divided once by PARTS_PER_UNIT. Within every limit of 32 bits it is taken as t
+// again. Of a t that no binary64 is, the nearest one is divided.
+pub fn bits_of_parts(t: u64) -> u64
+    ensures { λ r. ⌜ r ≡ partsBits t ⌝ }
+{
+    f64::to_bits((t as f64) / UNIT)
 }

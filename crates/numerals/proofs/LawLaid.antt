@@ -2,11 +2,11 @@
 -- Assumes nothing.
 use Prim.Native.Nat.{ℕ, suc, _+_, _≤_, _<_}
 use mathlib.Core.Path.{_≡_, refl, sym, ap, _∙_}
-use mathlib.Core.List.{List, [], _∷_, _++_}
+use mathlib.Core.List.{List, [], _∷_, _++_, append-assoc}
 use native.Mathlib.Nat.{le-antisymm, zero-add, add-zero, add-suc, suc-add}
 use native.Mathlib.Numerals.{add-one}
 use native.Mathlib.Omega.{arith}
-use lib.ListN.{length, take, drop, getD, set, replicate, length-replicate, replicate-append-replicate}
+use lib.ListN.{length, take, drop, getD, set, replicate, length-append, length-replicate, replicate-append-replicate}
 use lib.Seq.{sets-eq, set-out, length-sets, length-take-le, take-suc, take-all}
 use Rattle.little.proofs.LawPart.{fill-done}
 use Rattle.numerals.specs.Laid.{laid, Lays}
@@ -39,6 +39,24 @@ laid-more at (x ∷ a) b text = rw (add-suc, ← suc-add) (laid-more (suc at) a 
 laid-next : (at byte : ℕ) (a text : List ℕ) {i : ℕ} {x : List ℕ} → length a ≡ i → x ≡ laid at a text
     → laid (at + i) (byte ∷ []) x ≡ laid at (a ++ (byte ∷ [])) text
 laid-next at byte a text size e = rw (e, ← size) (laid-more at a (byte ∷ []) text)
+
+-- four bytes more, one after the other
+pub four-more : (b c d e : ℕ) {bytes : List ℕ} {most at : ℕ} {text : List ℕ} {r : ℕ} {t u v w x : List ℕ} → Lays bytes most at text r t
+    → u ≡ laid (at + r) (b ∷ []) t → v ≡ laid (at + (r + 1)) (c ∷ []) u → w ≡ laid (at + (r + 2)) (d ∷ []) v
+    → x ≡ laid (at + (r + 3)) (e ∷ []) w → Lays (bytes ++ (b ∷ c ∷ d ∷ e ∷ [])) (most + 4) at text (r + 4) x
+four-more b c d e {bytes} {most} {at} {text} {r} {t} {u} {v} {w} {x} h i j k l =
+    let one : length (bytes ++ (b ∷ [])) ≡ r + 1 = rw length-append (omega (arith, h .counts)) in
+    let two : length (bytes ++ (b ∷ []) ++ (c ∷ [])) ≡ r + 2 = rw (length-append, length-append) (omega (arith, h .counts)) in
+    let three : length (bytes ++ (b ∷ []) ++ (c ∷ []) ++ (d ∷ [])) ≡ r + 3 = rw (length-append, length-append, length-append) (omega (arith, h .counts)) in
+    let after-b = i ∙ laid-next at b bytes text (sym (h .counts)) (h .holds) in
+    let after-c = j ∙ laid-next at c (bytes ++ (b ∷ [])) text one after-b in
+    let after-d = k ∙ laid-next at d (bytes ++ (b ∷ []) ++ (c ∷ [])) text two after-c in
+    let after-e = l ∙ laid-next at e (bytes ++ (b ∷ []) ++ (c ∷ []) ++ (d ∷ [])) text three after-d in
+    record {
+      counts = rw length-append (omega (arith, h .counts));
+      few = omega (arith, h .few);
+      holds = simp append-assoc at after-e;
+    }
 
 -- ---- a loop that lays one byte after the other, i of them so far
 

@@ -1,3 +1,5 @@
 pub mod Laid
 pub mod Numeral
+pub mod Typed
+pub mod Word
 pub mod Inner

@@ -29,3 +29,19 @@ numeral n = cond (eqb n 0) (zeroDigit ∷ []) (significant mostDigits n)
 unfoldable pub valueOf : (so-far : ℕ) (digits : List ℕ) → ℕ
 valueOf so-far [] = so-far
 valueOf so-far (d ∷ digits) = valueOf (10 * so-far + (d - zeroDigit)) digits
+
+-- ---- a decimal numeral, in thousandths
+
+abbrev pub point : ℕ
+point = 46
+
+abbrev pub thousand : ℕ
+thousand = 1000
+
+-- t thousandths with all three places: the whole part with no leading zeros, a point, and three digits
+unfoldable pub decimalNumeral : (t : ℕ) → List ℕ
+decimalNumeral t = numeral (t / thousand) ++ (point ∷ digit (t / 100) ∷ digit (t / 10) ∷ digit t ∷ [])
+
+-- its bytes, at most
+abbrev pub mostDecimal : ℕ
+mostDecimal = mostDigits + 4

@@ -6,7 +6,7 @@ ghost use lib.ListN.{length, replicate};
 ghost use Rattle.numerals.specs.Laid.{laid, Lays};
 
 // No sum is made that could wrap, wherever the place is.
-fn lay_one(text: &mut [u8], at: usize, i: usize, byte: u8)
+pub(crate) fn lay_one(text: &mut [u8], at: usize, i: usize, byte: u8)
     ensures { λ _. ⌜ now (text .exit) ≡ laid (at + i) (byte ∷ []) (now (text .entry)) ⌝ }
 {
     if at < text.len() {

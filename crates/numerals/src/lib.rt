@@ -1,3 +1,5 @@
-// Numbers as decimal numerals, and bytes laid into lent ones. Knows no format.
+// Numbers as decimal numerals and as words, numbers as they were typed, and bytes laid into lent ones. Knows no format.
 pub mod bytes;
 pub mod number;
+pub mod typed;
+pub mod word;

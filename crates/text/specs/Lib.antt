@@ -2,6 +2,4 @@ pub mod Typed
 pub mod Binary
 pub mod Convert
 pub mod Read
-pub mod Written
-pub mod Declare
 pub mod Inner

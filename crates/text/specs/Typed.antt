@@ -71,16 +71,20 @@ abbrev pub noneZero : (numbers : List ℕ) → Bool
 noneZero [] = true
 noneZero (n ∷ numbers) = leb 1 n && noneZero numbers
 
--- at most 128 lines, and no number of the header is 0
+-- at most 128 lines
+abbrev pub fewLines : (lines : Option (List (List ℕ))) → Option (List (List ℕ))
+fewLines none = none
+fewLines (some lines) = cond (leb (length lines) mostLines) (some lines) none
+
+-- no number of the header is 0
 abbrev pub sheetTyped : (header : Option (List ℕ)) (lines : Option (List (List ℕ))) → Option TypedSheet
 sheetTyped none lines = none
 sheetTyped (some header) none = none
-sheetTyped (some header) (some lines) =
-    cond (noneZero header && leb (length lines) mostLines) (some (record { header = header; lines = lines })) none
+sheetTyped (some header) (some lines) = cond (noneZero header) (some (record { header = header; lines = lines })) none
 
 abbrev pub sheetIn : (records : List (List (List ℕ))) → Option TypedSheet
 sheetIn [] = none
-sheetIn (header ∷ lines) = sheetTyped (numbersIn headerFields header) (linesIn lines)
+sheetIn (header ∷ lines) = sheetTyped (numbersIn headerFields header) (fewLines (linesIn lines))
 
 -- the sheet that a text of at most 65,536 bytes is
 unfoldable pub typedSheet : (text : List ℕ) → Option TypedSheet

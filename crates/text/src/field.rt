@@ -1,7 +1,7 @@
 // The fields of a record, as numbers.
 ghost use mathlib.Core.Path.{_≡_};
 ghost use Rattle.text.specs.Typed.{fieldNumber};
-ghost use Rattle.text.specs.Inner.{fieldRead, Recordable, RecordFound};
+ghost use Rattle.text.specs.Inner.{takenIf, fieldRead, Recordable, RecordFound};
 use little::part::part;
 use numerals::number::MOST_DIGITS;
 use numerals::typed::Typed;

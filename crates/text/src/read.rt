@@ -74,7 +74,7 @@ fn lay_sheet(text: &[u8], sheet: &mut [u8]) -> LinesRead
     if MOST_BYTES < text.len() {
         return LinesRead::Broken;
     }
-    let takes = [3, 255, 3];
+    let takes = [3u64, 255, 3];
     let mut header = [0u64; 3];
     let RecordRead::Next(at) = record(text, 0, &takes, &mut header) else {
         return LinesRead::Broken;

@@ -54,7 +54,7 @@ pub(crate) fn lay_line(sheet: &mut [u8], i: usize, numbers: &[u64])
     requires { ⌜ (length (now numbers) ≡ 13) × (i < mostLines) ⌝ }
     ensures { λ _. ⌜ now (sheet .exit) ≡ laid (sheetSize i) (lineBytes (now (numbers .entry))) (now (sheet .entry)) ⌝ }
 {
-    let sizes: [u8; 15] = [2, 2, 2, 2, 2, 2, 2, 1, 1, 8, 8, 8, 8, 8, 8];
+    let sizes = [2u8, 2, 2, 2, 2, 2, 2, 1, 1, 8, 8, 8, 8, 8, 8];
     let line = [
         numbers[0],
         numbers[1],
@@ -80,7 +80,7 @@ pub(crate) fn lay_header(sheet: &mut [u8], header: &[u64], lines: usize)
     requires { ⌜ (length (now header) ≡ 3) × (lines ≤ mostLines) ⌝ }
     ensures { λ _. ⌜ now (sheet .exit) ≡ laid 0 (wordsOf headerSizes (headerWords (now (header .entry)) lines)) (now (sheet .entry)) ⌝ }
 {
-    let sizes: [u8; 6] = [4, 2, 1, 1, 4, 4];
+    let sizes = [4u8, 2, 1, 1, 4, 4];
     let size = HEADER_SIZE + LINE_SIZE * lines;
     let words_of_header = [
         size as u64,

@@ -84,13 +84,13 @@ pub over-limit : (limit t : ℕ) → limit < t → limited limit t ≡ Over
 over-limit limit t h = ap (λ (b : Bool). cond b (Is t) Over) (lt-leb t limit h)
 
 -- the answer for y half parts, and for a float that is a / c in size, with the sign s
-abbrev byHalves : (F most y : ℕ) → Taken
+abbrev pub byHalves : (F most y : ℕ) → Taken
 byHalves F most y = limited (F * most) ((y + 1) / 2)
 
-abbrev byValue : (F most : ℕ) (s : Bool) (a c : ℕ) → Taken
+abbrev pub byValue : (F most : ℕ) (s : Bool) (a c : ℕ) → Taken
 byValue F most s a c = cond (s && ltb 0 a) Bad (byHalves F most (2 * F * a / c))
 
-by-value : (F most : ℕ) (x : Float) (s : Bool) (a c : ℕ) → 0 < c → HasValue x s a c → takenOf F most x ≡ byValue F most s a c
+pub by-value : (F most : ℕ) (x : Float) (s : Bool) (a c : ℕ) → 0 < c → HasValue x s a c → takenOf F most x ≡ byValue F most s a c
 unfolding takenOf
 by-value F most nan s a c h v = absurd v
 by-value F most (inf t) s a c h v = absurd v

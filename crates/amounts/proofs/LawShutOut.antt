@@ -3,11 +3,12 @@ use mathlib.Core.Path.{_≡_}
 use mathlib.Core.Bool.{true}
 use Prim.Native.Nat.{ℕ, _-_, _*_, _/_}
 use native.Mathlib.Omega.{arith}
-use lib.Ieee.{binary64, ofBits}
+use lib.IntN.{pos}
+use lib.Ieee.{Float, binary64, ofBits, toBits, ofInt, div, round}
 use Rattle.amounts.specs.declared.reading.Taken.the-variants.{Is}
 use Rattle.amounts.specs.Rounding.{roundedDown, roundedUp}
 use Rattle.amounts.specs.Line.{wholeShare, removedOf, reusedOf, dischargedOf, amountsOf, _over_, whole, manualValue, Sound}
-use Rattle.amounts.specs.Reading.{takenOf}
+use Rattle.amounts.specs.Reading.{takenOf, ofParts, partsBits}
 
 -- D is within one unit of the exact value: of 2 units with 30 % removed and 40 % reused the rule discharges 2, and the manual 0.84
 one-unit : Sound 1 (manualValue (whole 2) (1 over 1) 300 400 true) (amountsOf 2 300 1 1 400 true) → ⊥
@@ -33,3 +34,11 @@ k-to-a-percent e = omega (arith, e)
 tie-down : takenOf 1 1 (ofBits binary64 0x3fe0_0000_0000_0000) ≡ Is 0 → ⊥
 unfolding takenOf ofBits
 tie-down e = let z : _≡_ {A = ℕ} 0 1 = cc in omega arith
+
+-- t parts divided by 10 three times, each time rounded: 7 thousandths
+abbrev tenth : Float → Float
+tenth x = div binary64 x (ofInt binary64 (pos 10))
+
+divided-thrice : partsBits 7 ≡ toBits binary64 (tenth (tenth (tenth (ofInt binary64 (pos 7))))) → ⊥
+unfolding partsBits ofParts ofInt div round toBits
+divided-thrice e = omega (arith, e)

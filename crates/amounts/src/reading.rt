@@ -94,9 +94,9 @@ pub fn parts_of(x: f64, most: u32) -> Taken
 }
 
 // The pattern of the reading of t parts: the binary64 of t, divided once by PARTS_PER_UNIT. Within every limit of 32 bits it is taken as t
-// again. Of a t that no binary64 is, the nearest one is divided.
+// again. `as` is not defined where no binary64 is t, so the conversion is to the nearest.
 pub fn bits_of_parts(t: u64) -> u64
     ensures { λ r. ⌜ r ≡ partsBits t ⌝ }
 {
-    f64::to_bits((t as f64) / UNIT)
+    f64::to_bits(std::num::nearest_u64_to_f64(t) / UNIT)
 }

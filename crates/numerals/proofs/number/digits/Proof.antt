@@ -21,6 +21,13 @@ abbrev μ-loop : tie.MeasureT-loop
 loop-holds : tie.Need-loop-holds Inv-loop μ-loop
 loop-holds c = (search needs, search needs, digits-start (c .before .args .n) (now (c .before .args .tail)) (c .before .pre))
 
+loop-again : tie.Need-loop-again Inv-loop μ-loop
+loop-again c =
+    let last-digit = c .last-digit in
+    let loop-test = c .before .loop-test in
+    let loop = c .before .before .loop in
+    (search needs, search needs, rw (last-digit .ensures) (digits-step _ _ _ (loop-test .taken) (omega arith) ∙ loop .inv .2))
+
 sub-i : tie.Need-sub-i Inv-loop μ-loop
 sub-i c = omega (arith, digits-some (c .before .loop .i) (c .before .loop .rest) (c .loop-test .taken))
 
@@ -29,13 +36,6 @@ slice-write-tail c = omega (arith, digits-some (c .before .before .loop .i) (c .
 
 loop-less : tie.Need-loop-less Inv-loop μ-loop
 loop-less c = omega (arith, digits-some (c .before .before .loop .i) (c .before .before .loop .rest) (c .before .loop-test .taken))
-
-loop-again : tie.Need-loop-again Inv-loop μ-loop
-loop-again c =
-    let last-digit = c .last-digit in
-    let loop-test = c .before .loop-test in
-    let loop = c .before .before .loop in
-    (search needs, search needs, rw (last-digit .ensures) (digits-step _ _ _ (loop-test .taken) (omega arith) ∙ loop .inv .2))
 
 returns : tie.Need-returns Inv-loop μ-loop
 returns c = record { within = search needs; size = search needs; ends = sym (digits-done _ _ _ (c .loop-test .left)) ∙ c .before .loop .inv .2 }

@@ -1,12 +1,12 @@
 -- What private functions ask and answer, beside what a promise says. Nothing here is needed to read a promise.
-use Prim.Native.Nat.{ℕ, _+_, _*_, _≤_, _<_}
+use Prim.Native.Nat.{ℕ, zero, suc, _+_, _*_, _≤_, _<_}
 use mathlib.Core.Path.{_≡_}
-use mathlib.Core.Bool.{Bool, false, cond}
+use mathlib.Core.Bool.{Bool, false, cond, _&&_}
 use mathlib.Core.List.{List, [], _∷_}
 use mathlib.Core.Option.{Option, none, some}
-use lib.Dec.{leb}
-use lib.ListN.{length, drop, replicate}
-use Rattle.headers.specs.Sheet.{sheetHeaderSize, mostLines}
+use lib.Dec.{leb, ltb}
+use lib.ListN.{length, drop, getD, replicate}
+use Rattle.headers.specs.Sheet.{sheetHeader, sheetHeaderSize, lineCount, mostLines}
 use Rattle.numerals.specs.Laid.{laid}
 use Rattle.numerals.specs.declared.typed.Typed.{Typed}
 use Rattle.numerals.specs.declared.typed.Typed.the-variants.{Is, Malformed}
@@ -16,7 +16,7 @@ use Rattle.records.specs.declared.field.Behind.{Behind}
 use Rattle.records.specs.declared.field.Behind.the-variants.{Field, Record}
 use Rattle.answers.specs.declared.answer.FileFault.the-variants.{ResultTooShort}
 use Rattle.answers.specs.declared.answer.Outcome.{Outcome}
-use Rattle.answers.specs.declared.answer.Outcome.the-variants.{RefusedFile}
+use Rattle.answers.specs.declared.answer.Outcome.the-variants.{RefusedFile, RefusedLine}
 use Rattle.text.specs.declared.convert.Converted.{Converted}
 use Rattle.text.specs.declared.convert.Converted.the-variants.{Bytes, Refused}
 use Rattle.text.specs.declared.field.FieldRead.{FieldRead}
@@ -27,6 +27,18 @@ use Rattle.text.specs.declared.read.LinesRead.{LinesRead}
 use Rattle.text.specs.declared.read.LinesRead.the-variants as all
 use Rattle.text.specs.Typed.{TypedSheet, fieldNumber, numbersIn, linesIn, fewLines, before, typedSheet}
 use Rattle.text.specs.Binary.{linesBytes, binarySheet}
+use Rattle.text.specs.Convert.{Gives, Refuses}
+use Rattle.text.specs.Written.{recordEnd, recordText, mostRecord, kindNumber, usedOf, allTaken, lineTexts, linesFrom, linesText}
+use Rattle.text.specs.declared.line.Readings.{Readings}
+use Rattle.text.specs.declared.line.Readings.the-variants as used
+use Rattle.text.specs.declared.write.LineText.{LineText}
+use Rattle.text.specs.declared.write.LineText.the-variants as lineEnds
+use Rattle.text.specs.declared.write.LinesText.{LinesText}
+use Rattle.text.specs.declared.write.LinesText.the-variants as linesEnd
+use Rattle.answers.specs.declared.answer.LineFault.the-variants.{BadReading}
+use Rattle.numerals.specs.Numeral.{numeral, decimalNumeral}
+use Rattle.records.specs.Records.{comma}
+use Rattle.desk.specs.declared.line.Line.{Line}
 
 -- ---- how a conversion ends
 
@@ -107,3 +119,90 @@ pub record Wordable (at : ℕ) (sizes numbers : List ℕ) : Type 0 where
   pub same : length sizes ≡ length numbers
   pub few : length sizes ≤ 16
   pub near : at ≤ 65536
+
+-- ---- what is written
+
+-- places lie below this
+abbrev pub reach : ℕ
+reach = 4_294_967_296
+
+-- the used readings, by how many there are and one by one
+abbrev pub readingsMade : Option (List ℕ) → Readings
+readingsMade none = used.BadOne
+readingsMade (some ts) = used.Used (length ts) (getD ts 0 0) (getD ts 1 0) (getD ts 2 0)
+
+abbrev pub fieldText : (number : ℕ) (places : Bool) → List ℕ
+fieldText number places = cond places (decimalNumeral number) (numeral number)
+
+abbrev pub separatorText : (last : Bool) → List ℕ
+separatorText last = cond last recordEnd (comma ∷ [])
+
+-- the fields of a record from number j on: those from `from` to before `until` with places
+unfoldable pub textsFrom : (from until j : ℕ) (numbers : List ℕ) → List (List ℕ)
+textsFrom from until j [] = []
+textsFrom from until j (n ∷ numbers) = fieldText n (leb from j && ltb j until) ∷ textsFrom from until (j + 1) numbers
+
+-- r is the place where these bytes end, of which there are at most so many, and the text afterwards has them laid into it
+pub record Puts (bytes : List ℕ) (most at : ℕ) (text : List ℕ) (r : ℕ) (text' : List ℕ) : Type 0 where
+  pub ends : r ≡ at + length bytes
+  pub few : length bytes ≤ most
+  pub holds : text' ≡ laid at bytes text
+
+-- a line's record, where no used reading is bad
+pub record LinePut (line : Line) (at : ℕ) (text : List ℕ) (r : ℕ) (text' : List ℕ) : Type 0 where
+  pub thousandths : List ℕ
+  pub taken : allTaken (usedOf line) ≡ some thousandths
+  pub puts : Puts (recordText (lineTexts line thousandths)) (mostRecord 13) at text r text'
+
+abbrev pub LineWritten : (line : Line) (at : ℕ) (text : List ℕ) (r : LineText) (text' : List ℕ) → Type 0
+LineWritten line at text (lineEnds.Ends end) text' = LinePut line at text end text'
+LineWritten line at text lineEnds.BadReading text' = allTaken (usedOf line) ≡ none
+
+-- the records of all lines, or the refusal that they meet
+pub record LinesPut (s : List ℕ) (at : ℕ) (text : List ℕ) (r : ℕ) (text' : List ℕ) : Type 0 where
+  pub bytes : List ℕ
+  pub gives : linesText 0 (linesFrom s 0 (lineCount s)) ≡ Gives bytes
+  pub puts : Puts bytes (mostRecord 13 * mostLines) at text r text'
+
+abbrev pub LinesWritten : (s : List ℕ) (at : ℕ) (text : List ℕ) (r : LinesText) (text' : List ℕ) → Type 0
+LinesWritten s at text (linesEnd.Ends end) text' = LinesPut s at text end text'
+LinesWritten s at text (linesEnd.BadReading line) text' =
+    linesText 0 (linesFrom s 0 (lineCount s)) ≡ Refuses (RefusedLine BadReading line)
+
+-- ---- the numbers of a binary sheet, as its text has them
+
+-- as many as there are fields for readings, 0 for those that are not used
+unfoldable pub padded : (fields : ℕ) (thousandths : List ℕ) → List ℕ
+padded zero ts = []
+padded (suc n) [] = 0 ∷ padded n []
+padded (suc n) (t ∷ ts) = t ∷ padded n ts
+
+unfoldable pub lineNumbers : (line : Line) (thousandths : List ℕ) → List ℕ
+lineNumbers line ts =
+    line .key .industry
+    ∷ line .key .product
+    ∷ line .key .material
+    ∷ line .key .process
+    ∷ line .key .scale
+    ∷ line .technique
+    ∷ line .reuse
+    ∷ kindNumber (line .reading)
+    ∷ line .product
+    ∷ line .material
+    ∷ padded 3 ts
+
+-- the used readings of a line that has no bad one
+abbrev pub takenNumbers : Option (List ℕ) → List ℕ
+takenNumbers none = []
+takenNumbers (some ts) = ts
+
+unfoldable pub linesNumbers : (lines : List Line) → List (List ℕ)
+linesNumbers [] = []
+linesNumbers (line ∷ lines) = lineNumbers line (takenNumbers (allTaken (usedOf line))) ∷ linesNumbers lines
+
+unfoldable pub sheetNumbers : (s : List ℕ) → TypedSheet
+sheetNumbers s =
+    record {
+      header = sheetHeader s .medium ∷ sheetHeader s .pollutant ∷ sheetHeader s .shownUnit ∷ [];
+      lines = linesNumbers (linesFrom s 0 (lineCount s));
+    }

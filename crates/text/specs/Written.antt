@@ -1,11 +1,12 @@
 -- The text of a binary sheet, byte for byte: no quotes, no needless leading zeros, every record ends in a carriage return and a line feed.
-use Prim.Native.Nat.{ℕ, zero, suc, _+_}
+use Prim.Native.Nat.{ℕ, zero, suc, _+_, _*_}
 use mathlib.Core.Bool.{cond}
 use mathlib.Core.List.{List, [], _∷_, _++_}
 use mathlib.Core.Option.{Option, none, some}
 use lib.Dec.{eqb}
-use Rattle.headers.specs.Sheet.{sheetHeader, lineCount}
-use Rattle.numerals.specs.Numeral.{numeral, decimalNumeral}
+use lib.ListN.{length}
+use Rattle.headers.specs.Sheet.{sheetHeader, lineCount, mostLines}
+use Rattle.numerals.specs.Numeral.{numeral, decimalNumeral, mostDecimal}
 use Rattle.records.specs.Records.{comma, carriageReturn, lineFeed}
 use Rattle.amounts.specs.declared.reading.Taken.{Taken}
 use Rattle.amounts.specs.declared.reading.Taken.the-variants.{Is, Over, Bad}
@@ -25,11 +26,25 @@ use Rattle.text.specs.Convert.{Made, Gives, Refuses}
 abbrev pub recordEnd : List ℕ
 recordEnd = carriageReturn ∷ lineFeed ∷ []
 
--- fields between commas, and the record's end
+-- behind a field a comma, and behind the last one the record's end
+abbrev pub separator : (others : List (List ℕ)) → List ℕ
+separator [] = recordEnd
+separator (field ∷ others) = comma ∷ []
+
 unfoldable pub recordText : (fields : List (List ℕ)) → List ℕ
-recordText [] = recordEnd
-recordText (field ∷ []) = field ++ recordEnd
-recordText (field ∷ g ∷ fields) = field ++ (comma ∷ recordText (g ∷ fields))
+recordText [] = []
+recordText (field ∷ fields) = field ++ (separator fields ++ recordText fields)
+
+-- bytes of a record of so many fields, at most: each has at most these, and then a comma or the record's end
+abbrev pub mostField : ℕ
+mostField = mostDecimal + length recordEnd
+
+abbrev pub mostRecord : (fields : ℕ) → ℕ
+mostRecord fields = mostField * fields
+
+-- of a text: the header's three fields, and thirteen a line
+abbrev pub mostSheetText : ℕ
+mostSheetText = mostRecord 3 + mostRecord 13 * mostLines
 
 -- ---- a line
 

@@ -2,5 +2,7 @@
 // promises.
 pub mod convert;
 mod field;
+mod line;
 pub mod read;
 mod words;
+pub mod write;

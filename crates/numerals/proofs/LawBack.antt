@@ -1,4 +1,5 @@
--- What is written is read again: a numeral as its number, a decimal numeral as its thousandths. Assumes nothing.
+-- What is written: its bytes, its length, its first digit, and that it is read again, a numeral as its number, a decimal numeral as its
+-- thousandths. Assumes nothing.
 use Prim.Native.Nat.{ℕ, zero, suc, _+_, _-_, _*_, _/_, _%_, _^_, _≤_, _<_}
 use mathlib.Core.Path.{_≡_, refl, sym, ap, _∙_}
 use mathlib.Core.Bool.{true, false}
@@ -8,14 +9,15 @@ use native.Mathlib.Omega.{arith}
 use lib.Dec.{eqb, lit≤}
 use lib.ListN.{length, getD, length-append, List·getD-append}
 use lib.Seq.{take-at, drop-append-add, getD-append-seam}
-use borrow.Author.Tests.{le-leb, eq-eqb, ne-eqb}
+use borrow.Author.Tests.{le-leb, eq-eqb, ne-eqb, eqb-true, eqb-false}
+use Rattle.little.specs.Read.{byteAt}
 use Rattle.search.specs.Test.{every}
 use Rattle.search.proofs.LawTest.{either-way, and-left, and-right}
 use Rattle.search.proofs.LawFirst.{first-start, first-rest, first-here}
 use Rattle.search.specs.First.{first}
 use Rattle.search.specs.declared.found.Found.the-variants.{At, Nothing}
 use Rattle.numerals.specs.Numeral.{mostDigits, zeroDigit, digit, significant, numeral, valueOf, point, thousand, decimalNumeral}
-use Rattle.numerals.specs.Typed.{isDigit, allDigits, allDecimal, isNumeral, numberIn, places, mostWhole, mostPlaces, isPointAt, pointIn, wholeIn, placesIn, decimalIn}
+use Rattle.numerals.specs.Typed.{nineDigit, isDigit, allDigits, allDecimal, isNumeral, numberIn, places, wholeDigits, mostWhole, mostPlaces, isPointAt, pointIn, wholeIn, placesIn, decimalIn}
 use Rattle.numerals.specs.declared.typed.Typed.the-variants.{Is}
 use Rattle.numerals.proofs.LawNumeral.{significant-few}
 use Rattle.numerals.proofs.LawValue.{numeral-value}
@@ -25,7 +27,7 @@ use Rattle.numerals.proofs.LawDecimal.{places-scaled, decimal-parts}
 -- ---- its bytes
 
 digit-is : (n : ℕ) → isDigit (digit n) ≡ true
-digit-is n = rw (le-leb zeroDigit (digit n) (omega arith), le-leb (digit n) 57 (omega arith))
+digit-is n = rw (le-leb zeroDigit (digit n) (omega arith), le-leb (digit n) nineDigit (omega arith))
 
 all-joined : (a b : List ℕ) → allDigits a ≡ true → allDigits b ≡ true → allDigits (a ++ b) ≡ true
 unfolding allDigits
@@ -86,6 +88,39 @@ numeral-short digits n h some = either-way (eqb n 0) (λ e. rw e some) (λ e. rw
 pub numeral-few : (n : ℕ) → length (numeral n) ≤ mostDigits
 unfolding numeral
 numeral-few n = either-way (eqb n 0) (λ e. rw e (lit≤ tt)) (λ e. rw e (significant-few mostDigits n))
+
+-- ---- its first digit: a zero leads only 0
+
+significant-zero : (most : ℕ) → significant most 0 ≡ []
+unfolding significant
+significant-zero zero = refl
+significant-zero (suc most) = refl
+
+-- of two digits or more the first is not the last
+first-of : (most n : ℕ) → n < 10 ^ most → eqb n 0 ≡ false → (d : ℕ) → byteAt (significant most n ++ (d ∷ [])) 0 ≡ byteAt (significant most n) 0
+first-of zero n h z d = absurd (eqb-false n 0 z (omega arith))
+first-of (suc most) n h z d = List·getD-append (significant (suc most) n) (d ∷ []) 0 0 (significant-some most n z)
+
+significant-leads : (most n : ℕ) → n < 10 ^ most → byteAt (significant most n) 0 ≡ zeroDigit → n ≡ 0
+unfolding significant
+significant-leads zero n h e = omega arith
+significant-leads (suc most) n h e =
+    let all : n < 10 ^ most * 10 = rw pow-suc at h in
+    let few : n / 10 < 10 ^ most = omega arith in
+    either-way (eqb n 0) (λ z. eqb-true n 0 z)
+    (λ z.
+    let leads : byteAt (significant most (n / 10) ++ (digit n ∷ [])) 0 ≡ zeroDigit = rw z at e in
+    either-way (eqb (n / 10) 0)
+    (λ one.
+    let nought : n / 10 ≡ 0 = eqb-true (n / 10) 0 one in
+    let alone : digit n ≡ zeroDigit = rw (nought, significant-zero most) at leads in
+    omega arith)
+    (λ many. absurd (eqb-false (n / 10) 0 many (significant-leads most (n / 10) few (sym (first-of most (n / 10) few many (digit n)) ∙ leads)))))
+
+pub numeral-leads : (n : ℕ) → n < 10 ^ mostDigits → byteAt (numeral n) 0 ≡ zeroDigit → n ≡ 0
+unfolding numeral
+numeral-leads n h e =
+    either-way (eqb n 0) (λ z. eqb-true n 0 z) (λ z. significant-leads mostDigits n h (rw z at e))
 
 -- ---- its number
 
@@ -148,8 +183,8 @@ unfolding decimalNumeral
 decimal-back t h =
     let whole = numeral (t / thousand) in
     let point-here = point-at whole (threeDigits t) (numeral-digits (t / thousand)) in
-    let few = numeral-short 11 (t / thousand) (omega arith) (omega arith) in
-    let before : wholeIn whole ≡ Is (t / thousand) = short-back 11 mostWhole (t / thousand) (omega arith) (omega arith) few in
+    let few = numeral-short wholeDigits (t / thousand) (omega arith) (omega arith) in
+    let before : wholeIn whole ≡ Is (t / thousand) = short-back wholeDigits mostWhole (t / thousand) (omega arith) (omega arith) few in
     let sum : t / thousand * thousand + t % thousand ≡ t = omega arith in
     decimal-parts (decimalNumeral t) (length whole) point-here
     ∙ rw (take-at whole (point ∷ threeDigits t) (length whole) refl, drop-append-add whole (point ∷ threeDigits t) 1, before, three-places t, sum)

@@ -5,3 +5,4 @@ pub mod LawTyped
 pub mod LawDecimal
 pub mod LawBack
 pub mod LawWord
+pub mod Figures

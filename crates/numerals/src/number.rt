@@ -10,7 +10,7 @@ use super::bytes::lay_one;
 // The digits of a number, at most.
 pub const MOST_DIGITS: usize = 20;
 
-// The bytes of a decimal numeral: the digits of its whole part, the point, three places.
+// The bytes of a decimal numeral, at most: the digits of its whole part, the point, three places.
 pub const MOST_DECIMAL: usize = MOST_DIGITS + 4;
 
 // The digit 0 in ASCII; the others follow it in order.

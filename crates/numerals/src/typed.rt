@@ -89,6 +89,7 @@ fn places_in(bytes: &[u8]) -> Typed
     }
 }
 
+// Both in thousandths; Malformed where either is.
 fn join(whole: Typed, part: Typed) -> Typed
     requires { ⌜ AtMost mostWhole whole × AtMost mostPlaces part ⌝ }
     ensures { λ r. ⌜ r ≡ joined whole part ⌝ }

@@ -8,6 +8,8 @@ use crate::plain::MOST_BYTES;
 
 const MOST_SHEET: usize = HEADER + MOST_LINES * LINE;
 const NUMERAL_DIGITS: usize = 20;
+/// So many digits fit 64 bits, whichever they are.
+const ALWAYS_FIT: usize = 19;
 const WHOLE_DIGITS: usize = 11;
 const PLACES: usize = 3;
 
@@ -141,14 +143,17 @@ impl Rest<'_> {
         let mut number = 0u64;
         let mut count = 0;
         for byte in self.0 {
-            let digit = byte.wrapping_sub(b'0');
+            let digit = u64::from(byte.wrapping_sub(b'0'));
             if digit > 9 {
                 break;
             }
             if count == most {
                 return None;
             }
-            number = number.checked_mul(10)?.checked_add(digit.into())?;
+            number = match count < ALWAYS_FIT {
+                true => 10 * number + digit,
+                false => number.checked_mul(10)?.checked_add(digit)?,
+            };
             count += 1;
         }
         self.0 = &self.0[count..];

@@ -2,7 +2,7 @@
 //! refusals and the room that is lent.
 
 use checkraven::{Outcome, MOST_SHEET, MOST_SHEET_TEXT};
-use peer::compare::{limited, thinned, AnyCase, Case, Conversion, Tally, TextCase, ThereAndBack};
+use peer::compare::{limited, run_plain, thinned, Case, Conversion, Tally, TextCase, ThereAndBack};
 use peer::make::generate::{self, Size};
 use peer::make::text::{wide_sheet, Text};
 use peer::make::{edges, every_two, Book, Line, Random, Row, Sheet, Technique};
@@ -415,11 +415,10 @@ fn every_two_lengths_of_results() {
     }
 }
 
-/// Each example, and its text where it has one, with the expected refusal or
-/// none.
+/// Each example there and back, and the text that it has beside its sheet.
 #[test]
 fn every_example() {
-    let mut tally = Tally::new("every_example");
+    let mut tally = Tally::new("every_example_as_text");
     let examples = Path::new(env!("CARGO_MANIFEST_DIR")).join("../examples");
     let entries = fs::read_dir(examples).expect("the examples folder is there").flatten();
     let folders: Vec<_> =
@@ -427,13 +426,12 @@ fn every_example() {
     assert!(folders.len() >= 10, "the manuals' examples and the others are there");
     for folder in folders {
         let case = Case::read(&folder).expect("the example has both files");
-        tally.expect_accepted(&ThereAndBack(case.clone()));
-        let expected = fs::read_to_string(folder.join("expected.txt")).unwrap();
-        if folder.join("sheet.csv").exists() {
-            let text = TextCase::read(&folder).expect("the example has both files");
-            let outcome = tally.compare(&text);
-            assert_eq!(outcome, case.compare().expect("both desks agree"));
-            assert_eq!(!outcome.is_accepted(), expected.starts_with("refused"));
-        }
+        let text = TextCase::read(&folder).expect("the example has a text too");
+        let outcome = tally.compare(&text);
+        assert_eq!(outcome, tally.compare(&case), "{}", folder.display());
+        let [text, sheet] = [text.run_plain(), run_plain(&case)];
+        let cells = 4 * (case.line_count() + 1);
+        assert_eq!(text.exact[..cells], sheet.exact[..cells], "{}", folder.display());
+        tally.expect_accepted(&ThereAndBack(case));
     }
 }

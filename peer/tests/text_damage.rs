@@ -5,7 +5,7 @@ use peer::compare::{limited, thinned, Case, Conversion, Tally, TextCase};
 use peer::make::damage::{damage_sheet, own_length};
 use peer::make::generate::{self, case_up_to, Size};
 use peer::make::text::{damage_text, wide_sheet, Text, TELLING};
-use peer::make::{edges, Book, Line, Random, Row, Sheet, Technique};
+use peer::make::{edges, every_two, Book, Line, Random, Row, Sheet, Technique};
 
 /// A text with a line of each kind that uses readings, a field in quotes,
 /// leading zeros and no last line break, and a book that takes it.
@@ -29,6 +29,15 @@ fn agree(tally: &mut Tally, text: &[u8]) {
     tally.agree(&TextCase { text: text.to_vec(), ..small_case() });
 }
 
+fn places(length: usize) -> Vec<usize> {
+    (0..length).collect()
+}
+
+/// What turns a byte into each other value.
+fn turns() -> Vec<u8> {
+    (1..=255).collect()
+}
+
 #[test]
 fn the_small_text_is_accepted() {
     let mut tally = Tally::new("the_small_text_is_accepted");
@@ -40,8 +49,7 @@ fn the_small_text_is_accepted() {
 fn every_other_value_of_every_byte() {
     let mut tally = Tally::new("every_other_value_of_every_byte_of_a_text");
     let mut text = small_case().text;
-    let changes = (0..text.len()).flat_map(|at| (1..=255u8).map(move |turn| (at, turn))).collect();
-    for (at, turn) in thinned::<(usize, u8)>(changes) {
+    for (at, turn) in thinned(every_two(&places(text.len()), &turns())) {
         text[at] ^= turn;
         agree(&mut tally, &text);
         text[at] ^= turn;
@@ -53,8 +61,8 @@ fn every_other_value_of_every_byte() {
 fn every_byte_put_in_everywhere() {
     let mut tally = Tally::new("every_byte_put_in_everywhere");
     let text = small_case().text;
-    let changes = (0..=text.len()).flat_map(|at| (0..=255u8).map(move |byte| (at, byte))).collect();
-    for (at, byte) in thinned::<(usize, u8)>(changes) {
+    let bytes: Vec<u8> = (0..=255).collect();
+    for (at, byte) in thinned(every_two(&places(text.len() + 1), &bytes)) {
         let mut text = text.clone();
         text.insert(at, byte);
         agree(&mut tally, &text);
@@ -67,8 +75,9 @@ fn every_byte_put_in_everywhere() {
 fn every_piece_left_out_or_doubled() {
     let mut tally = Tally::new("every_piece_left_out_or_doubled");
     let text = small_case().text;
-    let pieces = (0..text.len()).flat_map(|a| (a + 1..=text.len()).map(move |b| (a, b))).collect();
-    for (begin, end) in thinned::<(usize, usize)>(pieces) {
+    let mut pieces = every_two(&places(text.len()), &places(text.len() + 1));
+    pieces.retain(|(begin, end)| begin < end);
+    for (begin, end) in thinned(pieces) {
         agree(&mut tally, &[&text[..begin], &text[end..]].concat());
         agree(&mut tally, &[&text[..end], &text[begin..]].concat());
     }
@@ -79,11 +88,8 @@ fn every_piece_left_out_or_doubled() {
 fn every_two_telling_bytes() {
     let mut tally = Tally::new("every_two_telling_bytes");
     let text = small_case().text;
-    let bytes = || TELLING.into_iter();
-    let pairs = (0..text.len() - 1)
-        .flat_map(|at| bytes().flat_map(move |a| bytes().map(move |b| (at, a, b))))
-        .collect();
-    for (at, a, b) in thinned::<(usize, u8, u8)>(pairs) {
+    let two_bytes = every_two(&TELLING, &TELLING);
+    for (at, (a, b)) in thinned(every_two(&places(text.len() - 1), &two_bytes)) {
         let mut text = text.clone();
         text[at..at + 2].copy_from_slice(&[a, b]);
         tally.agree(&Conversion::read(&text));
@@ -163,8 +169,7 @@ fn every_other_value_of_every_byte_of_a_sheet() {
     let mut tally = Tally::new("every_other_value_of_every_byte_of_a_sheet_to_be_written");
     let mut sheet = small_sheet();
     tally.expect_accepted(&Conversion::write(&sheet));
-    let changes = (0..sheet.len()).flat_map(|at| (1..=255u8).map(move |turn| (at, turn))).collect();
-    for (at, turn) in thinned::<(usize, u8)>(changes) {
+    for (at, turn) in thinned(every_two(&places(sheet.len()), &turns())) {
         sheet[at] ^= turn;
         tally.agree(&Conversion::write(&sheet).with_room(1000));
         sheet[at] ^= turn;

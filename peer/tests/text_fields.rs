@@ -140,51 +140,54 @@ fn what_is_no_numeral() {
     }
 }
 
+/// Fields that have a quote too many, or one where none may be; @ stands for what
+/// would be taken.
+const WRONG_QUOTES: [&str; 34] = [
+    "\"\"",
+    "\"",
+    "\"\"\"",
+    "\"\"\"\"",
+    "\"@",
+    "@\"",
+    "@\"@",
+    "\"\"@\"\"",
+    "\"\"@",
+    "@\"\"",
+    "\"@\"\"",
+    "\"\"@\"",
+    "\"\"\"@\"\"\"",
+    "\"@\"\"@\"",
+    "\"@\" ",
+    " \"@\"",
+    "\"@\"@",
+    "@\"@\"",
+    "\" @\"",
+    "\"@ \"",
+    "\"@,\"",
+    "\",@\"",
+    "\",\"",
+    "\"@,@\"",
+    "\"@\r\n\"",
+    "\"\r\n@\"",
+    "\"\r\n\"",
+    "\"@\n\"",
+    "\"\r@\"",
+    "\"@\"\r",
+    "\"@\"\n",
+    "\"@'",
+    "'@\"",
+    "“@”",
+];
+
 /// Quotes around the whole of a field are as none; every other quote is one too
 /// many, whatever stands between.
 #[test]
 fn quotes_of_every_kind_around_each_field() {
     let mut tally = Tally::new("quotes_of_every_kind_around_each_field");
-    let wrong = [
-        "\"\"",
-        "\"",
-        "\"\"\"",
-        "\"\"\"\"",
-        "\"@",
-        "@\"",
-        "@\"@",
-        "\"\"@\"\"",
-        "\"\"@",
-        "@\"\"",
-        "\"@\"\"",
-        "\"\"@\"",
-        "\"\"\"@\"\"\"",
-        "\"@\"\"@\"",
-        "\"@\" ",
-        " \"@\"",
-        "\"@\"@",
-        "@\"@\"",
-        "\" @\"",
-        "\"@ \"",
-        "\"@,\"",
-        "\",@\"",
-        "\",\"",
-        "\"@,@\"",
-        "\"@\r\n\"",
-        "\"\r\n@\"",
-        "\"\r\n\"",
-        "\"@\n\"",
-        "\"\r@\"",
-        "\"@\"\r",
-        "\"@\"\n",
-        "\"@'",
-        "'@\"",
-        "“@”",
-    ];
     for (record, field) in fields() {
         let value = text().records[record][field].clone();
         check(&mut tally, (record, field), &format!("\"{value}\""), true);
-        for form in wrong {
+        for form in WRONG_QUOTES {
             check(&mut tally, (record, field), &form.replace('@', &value), false);
         }
     }

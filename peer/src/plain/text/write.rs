@@ -58,16 +58,23 @@ fn three_places(text: &mut Vec<u8>, thousandths: u64) {
     text.extend([b'.', digit(part / 100), digit(part / 10), digit(part)]);
 }
 
-/// Without leading zeros.
+/// Without leading zeros; two digits by one division.
 fn numeral(text: &mut Vec<u8>, mut number: u64) {
     let mut digits = [0; 20];
-    let mut first = digits.len() - 1;
-    digits[first] = digit(number);
-    while number > 9 {
-        number /= 10;
+    let mut first = digits.len();
+    while number > 99 {
+        first -= 2;
+        digits[first] = digit(number % 100 / 10);
+        digits[first + 1] = digit(number % 100);
+        number /= 100;
+    }
+    if number > 9 {
         first -= 1;
         digits[first] = digit(number);
+        number /= 10;
     }
+    first -= 1;
+    digits[first] = digit(number);
     text.extend_from_slice(&digits[first..]);
 }
 

@@ -1,3 +1,3 @@
 pub mod LawUsed
 pub mod LawField
-pub mod LawRecord
+pub mod LawFields

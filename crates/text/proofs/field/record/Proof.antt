@@ -4,7 +4,7 @@ use mathlib.Core.Path.{sym, _∙_}
 use native.Mathlib.Omega.{arith}
 use lib.ListN.{length}
 use borrow.Author.Needs.{needs}
-use Rattle.text.proofs.LawRecord.{SoFar, record-start, record-broken, record-step}
+use Rattle.text.proofs.LawFields.{SoFar, record-start, record-broken, record-step}
 use Rattle.text.proofs.field.record.Statement.{statement}
 use Rattle.text.proofs.field.record.Tie as tie
 

@@ -1,0 +1,3 @@
+pub mod LawRecord
+pub mod LawWritten
+pub mod LawBack

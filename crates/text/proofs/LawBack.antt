@@ -1,16 +1,15 @@
 -- The reader takes everything that the writer writes, as the numbers of the sheet. Assumes nothing.
-use Prim.Native.Nat.{ℕ, zero, suc, _+_, _*_, _^_, _≤_, _<_}
+use Prim.Native.Nat.{ℕ, zero, suc, _+_, _*_, _≤_}
 use mathlib.Core.Path.{_≡_, refl, ap, _∙_}
-use mathlib.Core.Bool.{Bool, true, false, cond}
+use mathlib.Core.Bool.{true}
 use mathlib.Core.List.{List, [], _∷_, _++_}
 use mathlib.Core.Option.{Option, none, some}
 use native.Mathlib.Omega.{arith}
-use lib.Dec.{leb, eqb, lit≤}
+use lib.Dec.{lit≤}
 use lib.ListN.{length, length-append}
 use borrow.Author.Tests.{le-leb, leb-true, not-true, eqb-false}
-use Rattle.little.specs.Read.{byteRange, u16Range, byteAt, u16At, u64At, AreBytes}
+use Rattle.little.specs.Read.{u16At, u64At, AreBytes}
 use Rattle.little.proofs.LawRead.{u16-below, u64-below}
-use Rattle.search.specs.Test.{every}
 use Rattle.search.proofs.LawTest.{either-way, clash, and-left, and-right, every-at}
 use Rattle.headers.specs.House.{mostBytes, fileOk}
 use Rattle.headers.specs.Sheet.{sheetHeader, sheetHeaderSize, sheetFits, sheetHeaderOk, lineCount, mostLines}
@@ -26,12 +25,12 @@ use Rattle.desk.specs.Line.{lineOf, readingAt}
 use Rattle.desk.specs.declared.line.Line.{Line}
 use Rattle.desk.proofs.LawTable.{lines-few}
 use Rattle.text.specs.Convert.{Made, Gives, Refuses}
-use Rattle.text.specs.Typed.{aCode, anAmount, headerFields, lineFields, numbersIn, before, linesIn, noneZero, sheetIn, typedSheet}
+use Rattle.text.specs.Typed.{aCode, anAmount, headerFields, linesIn, noneZero, typedSheet}
 use Rattle.text.specs.Written.{recordText, mostRecord, mostSheetText, kindNumber, usedOf, allTaken, lineTexts, linesFrom, headerTexts}
 use Rattle.text.specs.Written.{readingTexts, inFront, withLine, linesText, textOfSheet}
-use Rattle.text.specs.Inner.{lineNumbers, takenNumbers, linesNumbers, sheetNumbers}
+use Rattle.text.specs.Inner.{linesNumbers, sheetNumbers}
 use Rattle.text.proofs.LawRecord.{WrittenFields, written-numerals, written-readings, readings-count, record-first, record-short}
-use Rattle.text.proofs.LawWritten.{FieldFits, FieldsFit, done, _and_, field-fits, wholeFields, wholeNumbers, line-again, header-again, used-typable}
+use Rattle.text.proofs.LawWritten.{FieldFits, FieldsFit, done, _and_, field-fits, wholeFields, wholeNumbers, line-again, headerNumbers, header-again, used-typable}
 
 -- ---- what was given
 
@@ -84,9 +83,6 @@ line-texts line ts = written-numerals (wholeNumbers line) (readingTexts 3 ts) (w
 thirteen : (line : Line) (ts : List ℕ) → length (lineTexts line ts) ≡ 13
 unfolding lineTexts
 thirteen line ts = rw (readings-count 3 ts)
-
-abbrev headerNumbers : (s : List ℕ) → List ℕ
-headerNumbers s = sheetHeader s .medium ∷ sheetHeader s .pollutant ∷ sheetHeader s .shownUnit ∷ []
 
 header-texts : (s : List ℕ) → WrittenFields (headerTexts s)
 header-texts s = written-numerals (headerNumbers s) [] tt
@@ -168,7 +164,7 @@ module _ (s : List ℕ) (right : sheetOk s ≡ true) where
   pollutant-some : 1 ≤ sheetHeader s .pollutant
   pollutant-some = omega (arith, eqb-false (sheetHeader s .pollutant) 0 (not-true _ (every-at _ header-right 3)))
 
-  none-zero : noneZero (headerNumbers s) ≡ true
+  pub none-zero : noneZero (headerNumbers s) ≡ true
   none-zero = rw (every-at _ header-right 1, le-leb 1 (sheetHeader s .pollutant) pollutant-some, every-at _ header-right 6)
 
   pub header-fits : AreBytes s → FieldsFit headerFields (headerNumbers s)
@@ -191,7 +187,7 @@ written-read s w bytes e =
     let right = g .right in
     let cut : recordsOf w ≡ headerTexts s ∷ recordsOf (g .front .rest) =
     ap recordsOf (g .front .all) ∙ record-first (headerTexts s) (g .front .rest) (omega arith) (header-texts s) in
-    let header = header-again (headerNumbers s) (header-fits s right bytes) in
+    let header = header-again s (header-fits s right bytes) in
     let lines = lines-again s bytes 0 0 (lineCount s) (g .front .rest) (g .front .gives) in
     let few = le-leb (lineCount s) mostLines (lines-few s right) in
     (size, rw (le-leb (length w) mostBytes (omega arith), cut, header, lines, lines-count s 0 (lineCount s), few, none-zero s right))

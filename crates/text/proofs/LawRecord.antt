@@ -1,22 +1,21 @@
 -- A record that is written is read again: its fields are numerals, which need no quotes and are short. Assumes nothing.
-use Prim.Native.Nat.{ℕ, zero, suc, _+_, _*_, _/_, _≤_, _<_}
+use Prim.Native.Nat.{ℕ, zero, suc, _/_, _≤_, _<_}
 use mathlib.Core.Path.{_≡_, refl, ap, _∙_}
-use mathlib.Core.Bool.{true, false, _||_}
-use mathlib.Core.List.{List, [], _∷_, _++_, map, append-assoc, append-nil}
+use mathlib.Core.Bool.{true, false}
+use mathlib.Core.List.{List, [], _∷_, _++_, map, append-assoc}
 use native.Mathlib.Omega.{arith}
-use lib.Dec.{eqb}
 use lib.ListN.{length, length-append}
 use borrow.Author.Tests.{eqb-true, ne-eqb}
 use Rattle.search.specs.Test.{every}
 use Rattle.search.proofs.LawTest.{either-way, and-left, and-right}
-use Rattle.numerals.specs.Numeral.{mostDecimal, thousand, numeral, decimalNumeral}
+use Rattle.numerals.specs.Numeral.{point, mostDecimal, thousand, numeral, decimalNumeral}
 use Rattle.numerals.specs.Typed.{isDigit, digitOrPoint, allDecimal}
 use Rattle.numerals.proofs.LawTyped.{digit-low}
 use Rattle.numerals.proofs.LawBack.{numeral-bytes, decimal-bytes, numeral-few}
 use Rattle.records.specs.Records.{comma, quote, carriageReturn, lineFeed, recordIn, pieces, ended, recordsOf}
 use Rattle.records.specs.Plain.{isPlain, allPlain}
 use Rattle.records.proofs.LawWhole.{field-before-comma, field-before-line-end}
-use Rattle.text.specs.Written.{recordEnd, separator, recordText, mostField, mostRecord, readingTexts}
+use Rattle.text.specs.Written.{recordEnd, separator, recordText, mostRecord, readingTexts}
 
 -- ---- a numeral as a field
 
@@ -28,7 +27,7 @@ decimal-byte b h =
     let low = digit-low b d in
     rw
     (ne-eqb b comma (λ e. omega arith), ne-eqb b quote (λ e. omega arith), ne-eqb b carriageReturn (λ e. omega arith), ne-eqb b lineFeed (λ e. omega arith)))
-    (λ d. let is : b ≡ 46 = eqb-true b 46 (rw d at h) in rw is)
+    (λ d. let is : b ≡ point = eqb-true b point (rw d at h) in rw is)
 
 pub decimal-plain : (bytes : List ℕ) → allDecimal bytes ≡ true → allPlain bytes ≡ true
 unfolding allDecimal allPlain
@@ -53,7 +52,7 @@ unfolding decimalNumeral
 written-decimal t =
     record {
       plain = decimal-plain (decimalNumeral t) (decimal-bytes t);
-      short = rw (length-append) (omega (arith, numeral-few (t / thousand)));
+      short = rw length-append (omega (arith, numeral-few (t / thousand)));
     }
 
 -- ---- a record

@@ -1,7 +1,6 @@
 -- What is written of a header or a line is read again as its numbers, field by field. Assumes nothing.
 use Prim.Native.Nat.{ℕ, zero, suc, _*_, _^_, _≤_, _<_}
 use mathlib.Core.Path.{_≡_, refl}
-use mathlib.Core.Bool.{true, false, cond}
 use mathlib.Core.List.{List, [], _∷_, _++_, map}
 use mathlib.Core.Option.{Option, none, some}
 use native.Mathlib.Nat.{le-refl}
@@ -15,6 +14,7 @@ use Rattle.amounts.specs.Reading.{partsPerUnit, takenOf}
 use Rattle.amounts.specs.declared.reading.Taken.{Taken}
 use Rattle.amounts.specs.declared.reading.Taken.the-variants as taken
 use Rattle.amounts.proofs.LawReading.{taken-most}
+use Rattle.headers.specs.Sheet.{sheetHeader}
 use Rattle.shares.specs.Share.{mostHours, mostKilowatts, mostKilowattHours}
 use Rattle.shares.specs.declared.share.Reading.{Reading}
 use Rattle.shares.specs.declared.share.Reading.the-variants.{None, Hours, Energy, Throughout}
@@ -58,7 +58,6 @@ unused-again = rw (plain-content (numeral 0) (written-numeral 0 .plain)) zero-de
 -- ---- the fields of a record
 
 infixr 5 _and_
-
 pub data FieldsFit : (takes ns : List ℕ) → Type 0 where
   done : FieldsFit [] []
   _and_ : {takes n : ℕ} {others ns : List ℕ} → FieldFits takes n → FieldsFit others ns → FieldsFit (takes ∷ others) (n ∷ ns)
@@ -105,9 +104,12 @@ unfolding lineTexts lineNumbers
 line-again line ts f h =
     numerals-again wholeFields (wholeNumbers line) (replicate 3 aReading) (readingTexts 3 ts) (padded 3 ts) f (readings-again 3 ts h)
 
-pub header-again : (numbers : List ℕ) → FieldsFit headerFields numbers → numbersIn (headerFields ++ []) (map numeral numbers ++ []) ≡ some (numbers ++ [])
+abbrev pub headerNumbers : (s : List ℕ) → List ℕ
+headerNumbers s = sheetHeader s .medium ∷ sheetHeader s .pollutant ∷ sheetHeader s .shownUnit ∷ []
+
+pub header-again : (s : List ℕ) → FieldsFit headerFields (headerNumbers s) → numbersIn headerFields (headerTexts s) ≡ some (headerNumbers s)
 unfolding numbersIn
-header-again numbers f = numerals-again headerFields numbers [] [] [] f refl
+header-again s f = numerals-again headerFields (headerNumbers s) [] [] [] f refl
 
 -- ---- what a line uses
 

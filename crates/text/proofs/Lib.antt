@@ -1,6 +1,9 @@
 pub mod LawUsed
 pub mod LawField
 pub mod LawFields
+pub mod LawWords
+pub mod LawConvert
+pub mod LawPut
 pub mod LawRecord
 pub mod LawWritten
 pub mod LawBack

@@ -7,7 +7,7 @@ use native.Mathlib.Nat.{le-antisymm, zero-add, add-zero, add-suc, suc-add}
 use native.Mathlib.Numerals.{add-one}
 use native.Mathlib.Omega.{arith}
 use lib.ListN.{length, take, drop, getD, set, replicate, length-append, length-replicate, replicate-append-replicate}
-use lib.Seq.{sets-eq, set-out, length-sets, length-take-le, take-suc, take-all}
+use lib.Seq.{sets-eq, set-out, set-comm, length-sets, length-take-le, take-suc, take-all}
 use Rattle.little.proofs.LawPart.{fill-done}
 use Rattle.numerals.specs.Laid.{laid, Lays}
 
@@ -90,3 +90,19 @@ pub zeros-done : (i : ℕ) (text : List ℕ) → length text ≤ i → i ≤ len
 zeros-done i text h g =
     let size : length {A = ℕ} (replicate i 0) ≡ i = length-replicate i 0 in
     laid-is (replicate i 0) text (omega arith) ∙ rw size (fill-done text 0 i h g)
+
+-- ---- the first run after the second, which begins where it ends
+
+-- a store before all that is laid
+store-before : (k x at : ℕ) (b text : List ℕ) → k < at → set (laid at b text) k x ≡ laid at b (set text k x)
+unfolding laid
+store-before k x at [] text h = refl
+store-before k x at (y ∷ b) text h =
+    store-before k x (suc at) b (set text at y) (omega (arith, h)) ∙ ap (λ (t : List ℕ). laid (suc at) b t) (set-comm text at k y x (λ e. omega (arith, e, h)))
+
+pub laid-before : (at : ℕ) (a b text : List ℕ) → laid at a (laid (at + length a) b text) ≡ laid at (a ++ b) text
+unfolding laid
+laid-before at [] b text = rw add-zero
+laid-before at (x ∷ a) b text =
+    let later : at + suc (length a) ≡ suc at + length a = omega arith in
+    rw (later, store-before at x (suc at + length a) b text (omega arith)) (laid-before (suc at) a b (set text at x))

@@ -1,1 +1,2 @@
 pub mod LawBinary
+pub mod LawMade

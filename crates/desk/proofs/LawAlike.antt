@@ -125,16 +125,16 @@ module _ (book s s' : List ℕ) (right : sheetOk s ≡ sheetOk s') (count : line
     exact-after (RefusedFile fault) cells = refl
     exact-after (RefusedLine fault line) cells = refl
 
-    shown-after : (r : Outcome) (cells : List ℕ) → shownAfter r (lent book s) cells ≡ shownAfter r (lent book s') cells
+    pub shown-alike : (r : Outcome) (cells : List ℕ) → shownAfter r (lent book s) cells ≡ shownAfter r (lent book s') cells
     unfolding shownAfter
-    shown-after Accepted cells = rw (tables-alike, unit, count)
-    shown-after (RefusedFile fault) cells = refl
-    shown-after (RefusedLine fault line) cells = refl
+    shown-alike Accepted cells = rw (tables-alike, unit, count)
+    shown-alike (RefusedFile fault) cells = refl
+    shown-alike (RefusedLine fault line) cells = refl
 
     pub declared-alike : (exact shown : List ℕ) (r : Outcome) (exact' shown' : List ℕ) → Declared (lent book s) exact shown r exact' shown'
         → Declared (lent book s') exact shown r exact' shown'
     declared-alike exact shown r exact' shown' promised =
         let both = promised .tables in
         declared (lent book s') exact shown r exact' shown' (promised .demand1 .answer ∙ answers-alike (min (length exact) (length shown)))
-        (record { table = both .table ∙ exact-after r exact; shows = both .shows ∙ shown-after r shown })
+        (record { table = both .table ∙ exact-after r exact; shows = both .shows ∙ shown-alike r shown })
         (λ yes. rw (unit, count) at (promised .demand3 yes))

@@ -1,2 +1,3 @@
 pub mod LawBinary
 pub mod LawMade
+pub mod LawRound

@@ -3,7 +3,8 @@
  * two tables, exact and shown.
  *
  * A sheet is one works' year for one pollutant in one medium. A bundle has
- * several sheets for one call.
+ * several sheets for one call. A text sheet is a sheet typed in a spreadsheet
+ * and saved as comma-separated text.
  */
 #ifndef CHECKRAVEN_H
 #define CHECKRAVEN_H
@@ -19,12 +20,13 @@ extern "C" {
 #define CHECKRAVEN_ACCEPTED UINT64_C(0)
 
 /*
- * The refusal numbers. For a sheet 1 to 11 are looked for in this order. For a
- * whole bundle 16 is looked for first, then 3, and no other.
+ * The refusal numbers. For a sheet 1 to 11 are looked for in this order; for a
+ * text sheet 12 is looked for in the place of 2. For a whole bundle 16 is looked
+ * for first, then 3, and no other.
  */
 #define CHECKRAVEN_BOOK_MALFORMED      1  /* book malformed or over a limit */
 #define CHECKRAVEN_SHEET_MALFORMED     2  /* sheet malformed, over a limit, or shown unit not 1 to 3 */
-#define CHECKRAVEN_RESULT_TOO_SHORT    3  /* either result shorter than 4 * (lines + 1), or no room for a bundle */
+#define CHECKRAVEN_RESULT_TOO_SHORT    3  /* either result shorter than 4 * (lines + 1), or too little room lent */
 #define CHECKRAVEN_ACTIVITY_TOO_LARGE  4  /* product or material above 10^9 kg */
 #define CHECKRAVEN_REUSE_TOO_LARGE     5  /* reuse above 1000, in any medium */
 #define CHECKRAVEN_NO_ROW              6  /* no row */
@@ -33,6 +35,7 @@ extern "C" {
 #define CHECKRAVEN_BAD_READING         9  /* a used reading is bad or over its limit */
 #define CHECKRAVEN_ZERO_DIVISOR       10  /* production hours, rated kW or energy run hours 0 as thousandths */
 #define CHECKRAVEN_K_ABOVE_ONE        11  /* energy above what the rating allows: k above 1 */
+#define CHECKRAVEN_TEXT_MALFORMED     12  /* text sheet malformed, over a limit, or shown unit not 1 to 3 */
 #define CHECKRAVEN_BUNDLE_MALFORMED   16  /* bundle malformed or over a limit */
 
 /* Number and line of a refusal. The line counts from 1; 0 means a whole file. */
@@ -50,6 +53,12 @@ extern "C" {
 
 /* Bytes that are enough for the report of every sheet. */
 #define CHECKRAVEN_MOST_TEXT 28664
+
+/* Bytes that are enough for the sheet of every text: 128 lines. */
+#define CHECKRAVEN_MOST_SHEET 8208
+
+/* Bytes that are enough for the text of every sheet. */
+#define CHECKRAVEN_MOST_SHEET_TEXT 40960
 
 /*
  * Accounts for one sheet with one book.
@@ -143,6 +152,81 @@ uint64_t checkraven_account_bundle(const uint8_t *book, size_t book_len,
 uint64_t checkraven_report(const uint8_t *book, size_t book_len,
                            const uint8_t *sheet, size_t sheet_len,
                            uint8_t *text, size_t text_len);
+
+/*
+ * Reads a text sheet and writes the binary sheet that it stands for.
+ *
+ * Lent for reading: the text (text_len bytes). It never changes.
+ * Lent for writing: the sheet (sheet_len bytes). It doesn't overlap the text.
+ * No pointer is null, also where its length is 0. Both may stand at any
+ * address.
+ *
+ * A text has at most 65,536 bytes. By RFC 4180 commas stand between fields and
+ * records end in CR LF, which the last one need not have; a field may stand in
+ * double quotes. The first record has three fields: medium, pollutant, shown
+ * unit. Then comes one record for each line, at most 128, with 13 fields in the
+ * order of the binary ones: industry, product, material, process, scale,
+ * technique, reuse, kind, product in kilograms, material in kilograms, the
+ * readings a, b and c.
+ *   numeral: 1 to 20 digits, a number that fits the binary field; no sign, no
+ *            space.
+ *   reading: 1 to 11 digits, with or without a point and 1 to 3 more.
+ *
+ * The answer is the number of bytes written, 16 + 64 * lines. The sheet then
+ * begins with them: its lines start at 16, and it ends with them. Further bytes
+ * keep their values. A reading of t thousandths is the double t / 1000.0; one
+ * that the kind doesn't use, and each one with technique 0, is 0.0 whichever
+ * reading was read.
+ *
+ * Otherwise the answer is number * 65536, and all bytes of the sheet are zero:
+ *   CHECKRAVEN_TEXT_MALFORMED:   the text isn't as above, or checkraven_account
+ *                                would refuse what it says with 2: the medium,
+ *                                the pollutant, the shown unit or a kind.
+ *   CHECKRAVEN_RESULT_TOO_SHORT: the sheet has no room for all bytes.
+ * They are looked for in this order.
+ */
+uint64_t checkraven_sheet_from_text(const uint8_t *text, size_t text_len,
+                                    uint8_t *sheet, size_t sheet_len);
+
+/*
+ * Writes a binary sheet as text.
+ *
+ * Lent for reading: the sheet (sheet_len bytes). It never changes.
+ * Lent for writing: the text (text_len bytes). It doesn't overlap the sheet.
+ * No pointer is null, also where its length is 0. Both may stand at any
+ * address.
+ *
+ * The answer is the number of bytes written, below 65536. The text then begins
+ * with them, further bytes keep their values, and no zero byte ends them. They
+ * are ASCII, and records and fields as checkraven_sheet_from_text takes them:
+ * every record ends in CR LF, no field stands in quotes, no number has needless
+ * leading zeros, and a reading has three places. One that the kind doesn't use,
+ * and each one with technique 0, is written 0. What was written and read again
+ * has the same answer and the same tables.
+ *
+ * Otherwise the answer is number * 65536 + line, and all bytes of the text are
+ * zero:
+ *   CHECKRAVEN_SHEET_MALFORMED:  checkraven_account would refuse the sheet with 2.
+ *   CHECKRAVEN_BAD_READING:      with the first line that has a used reading
+ *                                which is bad or over its limit.
+ *   CHECKRAVEN_RESULT_TOO_SHORT: the text has no room for all bytes.
+ * They are looked for in this order.
+ */
+uint64_t checkraven_text_from_sheet(const uint8_t *sheet, size_t sheet_len,
+                                    uint8_t *text, size_t text_len);
+
+/*
+ * Accounts for one text sheet with one book.
+ *
+ * All is as with checkraven_account for the sheet that
+ * checkraven_sheet_from_text writes for the text, with 12 in the place of 2: the
+ * first refusal is the first in the order 1, 12, 3, then lines from 1 up, each
+ * in the order 4 to 11.
+ */
+uint64_t checkraven_account_text(const uint8_t *book, size_t book_len,
+                                 const uint8_t *text, size_t text_len,
+                                 uint64_t *exact, size_t exact_len,
+                                 uint64_t *shown, size_t shown_len);
 
 #ifdef __cplusplus
 }

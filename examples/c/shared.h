@@ -1,4 +1,4 @@
-/* What both examples need: reading a file, and printing a sheet's outcome. */
+/* What all examples need: reading a file, and printing a sheet's outcome. */
 #ifndef SHARED_H
 #define SHARED_H
 

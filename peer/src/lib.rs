@@ -6,3 +6,4 @@ pub mod demand3;
 pub mod make;
 pub mod plain;
 pub mod print;
+pub mod rfc4180;

@@ -33,6 +33,31 @@ extern "C" {
         text: *mut u8,
         text_len: usize,
     ) -> u64;
+
+    fn checkraven_sheet_from_text(
+        text: *const u8,
+        text_len: usize,
+        sheet: *mut u8,
+        sheet_len: usize,
+    ) -> u64;
+
+    fn checkraven_text_from_sheet(
+        sheet: *const u8,
+        sheet_len: usize,
+        text: *mut u8,
+        text_len: usize,
+    ) -> u64;
+
+    fn checkraven_account_text(
+        book: *const u8,
+        book_len: usize,
+        text: *const u8,
+        text_len: usize,
+        exact: *mut u64,
+        exact_len: usize,
+        shown: *mut u64,
+        shown_len: usize,
+    ) -> u64;
 }
 
 pub(crate) fn account(book: &[u8], sheet: &[u8], exact: &mut [u64], shown: &mut [u64]) -> u64 {
@@ -90,6 +115,37 @@ pub(crate) fn report(book: &[u8], sheet: &[u8], text: &mut [u8]) -> u64 {
             sheet.len(),
             text.as_mut_ptr(),
             text.len(),
+        )
+    }
+}
+
+pub(crate) fn sheet_from_text(text: &[u8], sheet: &mut [u8]) -> u64 {
+    // SAFETY: as above. The sheet is a `&mut` slice of bytes, which need not be
+    // aligned, and doesn't overlap the text.
+    unsafe {
+        checkraven_sheet_from_text(text.as_ptr(), text.len(), sheet.as_mut_ptr(), sheet.len())
+    }
+}
+
+pub(crate) fn text_from_sheet(sheet: &[u8], text: &mut [u8]) -> u64 {
+    // SAFETY: as above, the other way round.
+    unsafe {
+        checkraven_text_from_sheet(sheet.as_ptr(), sheet.len(), text.as_mut_ptr(), text.len())
+    }
+}
+
+pub(crate) fn account_text(book: &[u8], text: &[u8], exact: &mut [u64], shown: &mut [u64]) -> u64 {
+    // SAFETY: as for `account`.
+    unsafe {
+        checkraven_account_text(
+            book.as_ptr(),
+            book.len(),
+            text.as_ptr(),
+            text.len(),
+            exact.as_mut_ptr(),
+            exact.len(),
+            shown.as_mut_ptr(),
+            shown.len(),
         )
     }
 }

@@ -5,7 +5,10 @@
 //! is proved; this crate lends it memory and names its answer. [`declare`]
 //! lends memory of its own and gives rows; [`account`] takes the caller's.
 //! [`declare_bundle`] and [`account_bundle`] do the same for a bundle of up to
-//! 16 sheets. [`report`] gives the text that the program prints for a sheet.
+//! 16 sheets, [`declare_text`] and [`account_text`] for a sheet that is saved as
+//! comma-separated text. [`sheet_from_text`] and [`text_from_sheet`] turn such a
+//! text into a sheet and back. [`report`] gives the text that the program prints
+//! for a sheet.
 
 use std::fmt;
 
@@ -14,11 +17,14 @@ mod desk;
 mod refusal;
 mod report;
 mod tables;
+mod text;
 
 pub use bundle::{account_bundle, declare_bundle, Works, MOST_SHEETS};
 pub use refusal::{Refusal, Refused};
 pub use report::{report, report_into, MOST_TEXT};
 pub use tables::{Line, Row, Tables, Total, Unit};
+pub use text::{account_text, declare_text, sheet_from_text, sheet_from_text_into};
+pub use text::{text_from_sheet, text_from_sheet_into, MOST_SHEET, MOST_SHEET_TEXT};
 
 /// The most lines in a sheet.
 pub const MOST_LINES: usize = 128;
@@ -32,7 +38,8 @@ pub const fn cells_for(lines: usize) -> usize {
     tables::COLUMNS * (lines + 1)
 }
 
-/// What the desk answers to [`account`], and to [`account_bundle`] for the whole.
+/// What the desk answers to [`account`] and [`account_text`], and to
+/// [`account_bundle`] for the whole.
 #[derive(Clone, Copy, Debug, PartialEq, Eq, Hash)]
 #[must_use = "the tables stand only if the sheet was accepted"]
 pub enum Outcome {

@@ -3,7 +3,7 @@
 use std::error::Error;
 use std::fmt;
 
-/// Why a sheet or a bundle is refused. Shown in the words of the rules.
+/// Why a sheet, a text or a bundle is refused. Shown in the words of the rules.
 #[derive(Clone, Copy, Debug, PartialEq, Eq, Hash)]
 #[non_exhaustive]
 pub enum Refusal {
@@ -18,6 +18,7 @@ pub enum Refusal {
     BadReading,
     ZeroDivisor,
     KAboveOne,
+    TextMalformed,
     BundleMalformed,
     /// A number that this crate has no name for: the library is newer than it.
     Unnamed(u32),
@@ -25,8 +26,10 @@ pub enum Refusal {
 
 impl Refusal {
     /// All that have names, by their numbers. Those of a sheet are looked for in
-    /// this order; of a whole bundle `BundleMalformed` comes before `ResultTooShort`.
-    pub const NAMED: [Refusal; 12] = [
+    /// this order; of a text sheet `TextMalformed` is looked for in the place of
+    /// `SheetMalformed`, and of a whole bundle `BundleMalformed` comes before
+    /// `ResultTooShort`.
+    pub const NAMED: [Refusal; 13] = [
         Refusal::BookMalformed,
         Refusal::SheetMalformed,
         Refusal::ResultTooShort,
@@ -38,6 +41,7 @@ impl Refusal {
         Refusal::BadReading,
         Refusal::ZeroDivisor,
         Refusal::KAboveOne,
+        Refusal::TextMalformed,
         Refusal::BundleMalformed,
     ];
 
@@ -58,7 +62,7 @@ impl Refusal {
                 (2, "sheet malformed, over a limit, or shown unit not 1 to 3")
             }
             Refusal::ResultTooShort => {
-                (3, "either result shorter than 4 × (lines + 1), or no room for a bundle")
+                (3, "either result shorter than 4 × (lines + 1), or too little room lent")
             }
             Refusal::ActivityTooLarge => (4, "product or material above 10^9 kg"),
             Refusal::ReuseTooLarge => (5, "reuse above 1000, in any medium"),
@@ -70,6 +74,9 @@ impl Refusal {
                 (10, "production hours, rated kW or energy run hours 0 as thousandths")
             }
             Refusal::KAboveOne => (11, "energy above what the rating allows: k above 1"),
+            Refusal::TextMalformed => {
+                (12, "text sheet malformed, over a limit, or shown unit not 1 to 3")
+            }
             Refusal::BundleMalformed => (16, "bundle malformed or over a limit"),
             Refusal::Unnamed(number) => (number, "a refusal that has no name here"),
         }
@@ -105,13 +112,13 @@ mod tests {
     #[test]
     fn names_and_numbers_lead_to_each_other() {
         let numbers = Refusal::NAMED.map(Refusal::number);
-        assert_eq!(numbers, [1, 2, 3, 4, 5, 6, 7, 8, 9, 10, 11, 16]);
+        assert_eq!(numbers, [1, 2, 3, 4, 5, 6, 7, 8, 9, 10, 11, 12, 16]);
         assert_eq!(numbers.map(Refusal::from_number), Refusal::NAMED);
     }
 
     #[test]
     fn a_number_without_a_name_is_kept() {
-        for number in [0, 12, 15, 17, 23, u32::MAX] {
+        for number in [0, 13, 15, 17, 23, u32::MAX] {
             assert_eq!(Refusal::from_number(number), Refusal::Unnamed(number));
             assert_eq!(Refusal::from_number(number).number(), number);
         }

@@ -1,10 +1,11 @@
--- Past the end every number is 0: each of its halves is, by the law of half its bytes. Assumes nothing.
-use Prim.Native.Nat.{ℕ, _+_, _≤_}
+-- Past the end every number is 0, and of bytes every number is below its range: each of its halves is, by the law of half its bytes.
+-- Assumes nothing.
+use Prim.Native.Nat.{ℕ, _+_, _^_, _≤_, _<_}
 use mathlib.Core.List.{List}
 use mathlib.Core.Path.{_≡_}
 use native.Mathlib.Omega.{arith}
 use lib.ListN.{length, List·getD-eq-default}
-use Rattle.little.specs.Read.{byteAt, u16At, u32At, u64At}
+use Rattle.little.specs.Read.{u16Range, u32Range, byteAt, u16At, u32At, u64At, AreBytes}
 
 pub byte-past : (s : List ℕ) (at : ℕ) → length s ≤ at → byteAt s at ≡ 0
 byte-past s at h = List·getD-eq-default s 0 h
@@ -20,3 +21,15 @@ u32-past s at h = omega (arith, u16-past s at h, u16-past s (at + 2) (omega arit
 pub u64-past : (s : List ℕ) (at : ℕ) → length s ≤ at → u64At s at ≡ 0
 unfolding u64At
 u64-past s at h = omega (arith, u32-past s at h, u32-past s (at + 4) (omega arith))
+
+pub u16-below : (s : List ℕ) → AreBytes s → (at : ℕ) → u16At s at < u16Range
+unfolding u16At
+u16-below s bytes at = omega (arith, bytes at, bytes (at + 1))
+
+pub u32-below : (s : List ℕ) → AreBytes s → (at : ℕ) → u32At s at < u32Range
+unfolding u32At
+u32-below s bytes at = omega (arith, u16-below s bytes at, u16-below s bytes (at + 2))
+
+pub u64-below : (s : List ℕ) → AreBytes s → (at : ℕ) → u64At s at < 2 ^ 64
+unfolding u64At
+u64-below s bytes at = omega (arith, u32-below s bytes at, u32-below s bytes (at + 4))

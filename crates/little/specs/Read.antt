@@ -26,6 +26,10 @@ u32At s at = u16At s at + u16Range * u16At s (at + 2)
 unfoldable pub u64At : (s : List ℕ) (at : ℕ) → ℕ
 u64At s at = u32At s at + u32Range * u32At s (at + 4)
 
+-- each entry is a byte
+abbrev pub AreBytes : List ℕ → Type 0
+AreBytes s = (i : ℕ) → byteAt s i < byteRange
+
 -- r is the number that is meant, and it is below the bound
 pub record Reads (r meant bound : ℕ) : Type 0 where
   pub eq : r ≡ meant

@@ -208,11 +208,11 @@ line-end b t e n =
     let both : (eqb b carriageReturn && eqb (byteAt t 0) lineFeed) ≡ true = rw (ne-eqb b comma n) at e in
     (eqb-true b carriageReturn (and-left (eqb b carriageReturn) (eqb (byteAt t 0) lineFeed) both), eqb-true (byteAt t 0) lineFeed (and-right (eqb b carriageReturn) (eqb (byteAt t 0) lineFeed) both))
 
-after-comma : (t : List ℕ) → pieces false (comma ∷ t) ≡ record { field = []; fields = recordIn (pieces false t); records = pieces false t .records }
+pub after-comma : (t : List ℕ) → pieces false (comma ∷ t) ≡ record { field = []; fields = recordIn (pieces false t); records = pieces false t .records }
 unfolding pieces
 after-comma t = refl
 
-after-line-end : (t : List ℕ)
+pub after-line-end : (t : List ℕ)
     → pieces false (carriageReturn ∷ lineFeed ∷ t) ≡ record { field = []; fields = []; records = recordIn (pieces false t) ∷ pieces false t .records }
 unfolding pieces
 after-line-end t = refl

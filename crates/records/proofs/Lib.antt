@@ -1,2 +1,3 @@
 pub mod LawField
 pub mod LawContent
+pub mod LawWhole

@@ -1,3 +1,9 @@
+pub mod LawUsed
+pub mod LawField
+pub mod LawFields
+pub mod LawRecord
+pub mod LawWritten
+pub mod LawBack
 pub mod LawBinary
 pub mod LawMade
 pub mod LawRound

@@ -98,7 +98,8 @@ fn lay_line(text: &mut [u8], at: usize, line: Line) -> LineText
     requires { ⌜ at + mostRecord 13 ≤ reach ⌝ }
     ensures { λ r. ⌜ LineWritten line at (now (text .entry)) r (now (text .exit)) ⌝ }
 {
-    let Readings::Used(used, a, b, c) = used_by(line.technique, line.reading) else {
+    let reading = line.reading;
+    let Readings::Used(used, a, b, c) = used_by(line.technique, reading) else {
         return LineText::BadReading;
     };
     let numbers = [
@@ -109,7 +110,7 @@ fn lay_line(text: &mut [u8], at: usize, line: Line) -> LineText
         line.key.scale as u64,
         line.technique as u64,
         line.reuse as u64,
-        kind_number(line.reading),
+        kind_number(reading),
         line.product,
         line.material,
         a,

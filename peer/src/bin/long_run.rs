@@ -1,8 +1,9 @@
 //! Compares both desks on cases of any sort for a while, one in ten of them a
-//! bundle: `long_run [SECONDS] [SEED]`, by default one minute with seed 1.
+//! bundle and three in ten a text: `long_run [SECONDS] [SEED]`, by default one
+//! minute with seed 1.
 
 use peer::compare::{keep, AnyCase};
-use peer::make::{any_bundle, any_case, Random};
+use peer::make::{any_bundle, any_case, any_conversion, any_text_case, any_there_and_back, Random};
 use std::process::ExitCode;
 use std::time::{Duration, Instant};
 
@@ -29,9 +30,12 @@ fn run(length: Duration, seed: u64) -> (u64, u64) {
     let mut next_word = Duration::from_secs(10);
     while begin.elapsed() < length {
         cases += 1;
-        let agreed = match random.chance(10) {
-            true => agrees(&any_bundle(&mut random)),
-            false => agrees(&any_case(&mut random)),
+        let agreed = match random.below(10) {
+            0 => agrees(&any_bundle(&mut random)),
+            1 => agrees(&any_text_case(&mut random)),
+            2 => agrees(&any_conversion(&mut random)),
+            3 => agrees(&any_there_and_back(&mut random)),
+            _ => agrees(&any_case(&mut random)),
         };
         disagreements += u64::from(!agreed);
         if begin.elapsed() >= next_word {

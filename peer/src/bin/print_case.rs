@@ -1,18 +1,22 @@
-//! Prints what the program prints for a folder's book.bin and sheet.bin, or for
-//! its book.bin and bundle.bin: `print_case FOLDER`. A file that isn't there
-//! counts as empty.
+//! Prints what the program prints for a folder's book.bin and its bundle.bin, or
+//! else its sheet.bin, or else its sheet.csv: `print_case FOLDER`. A file that
+//! isn't there counts as empty.
 
 use checkraven::{MOST_CELLS, MOST_SHEETS};
-use peer::compare::{run_proved, BundleCase, Case};
+use peer::compare::{run_proved, BundleCase, Case, TextCase};
 use peer::print::{whole_bundle_output, whole_output};
 use std::path::Path;
 
 fn main() {
     let folder = std::env::args().nth(1).unwrap_or_else(|| ".".to_string());
     let folder = Path::new(&folder);
-    let printed = match folder.join("bundle.bin").exists() {
-        true => print_bundle(folder),
-        false => print_sheet(folder),
+    let has = |name: &str| folder.join(name).exists();
+    let printed = if has("bundle.bin") {
+        print_bundle(folder)
+    } else if has("sheet.csv") && !has("sheet.bin") {
+        print_text(folder)
+    } else {
+        print_sheet(folder)
     };
     print!("{}", printed.expect("the memory around is kept"));
 }
@@ -22,6 +26,13 @@ fn print_sheet(folder: &Path) -> Result<String, String> {
     let case = case.with_lengths(MOST_CELLS, MOST_CELLS);
     let filled = run_proved(&case)?;
     Ok(whole_output(&case, filled.outcome, &filled.exact, &filled.shown))
+}
+
+fn print_text(folder: &Path) -> Result<String, String> {
+    let case = TextCase::with_room(file(folder, "book.bin"), file(folder, "sheet.csv"));
+    let case = case.with_lengths(MOST_CELLS, MOST_CELLS);
+    let filled = case.run_proved()?;
+    Ok(whole_output(&case.with_binary_sheet(), filled.outcome, &filled.exact, &filled.shown))
 }
 
 fn print_bundle(folder: &Path) -> Result<String, String> {

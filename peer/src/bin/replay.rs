@@ -1,7 +1,9 @@
-//! Replays one case: `replay FOLDER` with book.bin and sheet.bin or bundle.bin,
-//! and lengths.txt where the lengths of what is lent matter.
+//! Replays one case: `replay FOLDER` with book.bin and one of sheet.bin,
+//! bundle.bin and sheet.csv, and lengths.txt where the lengths of what is lent
+//! matter. A sheet.csv without a book is only read, a sheet.bin only written.
 
 use peer::compare::{run_plain, run_proved, AnyCase, BundleCase, Case, Filled};
+use peer::compare::{Conversion, Converted, TextCase, ThereAndBack};
 use peer::print::{whole_bundle_output, whole_output};
 use std::path::Path;
 use std::process::ExitCode;
@@ -12,32 +14,67 @@ fn main() -> ExitCode {
         return ExitCode::from(2);
     };
     let path = Path::new(&folder);
-    let replayed = match path.join("bundle.bin").exists() {
-        true => BundleCase::read(path).map(|case| replay_bundle(&case)),
-        false => Case::read(path).map(|case| replay_sheet(&case)),
+    let has = |name: &str| path.join(name).exists();
+    let replayed = if !has("book.bin") {
+        Conversion::from_folder(path).map(|conversion| replay_conversion(&conversion))
+    } else if has("bundle.bin") {
+        BundleCase::read(path).map(|case| replay_bundle(&case))
+    } else if has("sheet.csv") && !has("sheet.bin") {
+        TextCase::read(path).map(|case| replay_text(&case))
+    } else {
+        Case::read(path).map(|case| replay_sheet(&case))
     };
-    replayed.unwrap_or_else(|error| {
-        eprintln!("{folder}: {error}");
-        ExitCode::from(2)
-    })
+    match replayed {
+        Ok(true) => ExitCode::SUCCESS,
+        Ok(false) => ExitCode::FAILURE,
+        Err(error) => {
+            eprintln!("{folder}: {error}");
+            ExitCode::from(2)
+        }
+    }
 }
 
-fn replay_sheet(case: &Case) -> ExitCode {
+fn replay_sheet(case: &Case) -> bool {
     println!("results of {} and {} cells", case.exact_len, case.shown_len);
-    let verdict = verdict(case);
+    let mut agreed = agree(case);
+    println!("The sheet written as text and read again:");
+    agreed &= agree(&ThereAndBack(case.clone()));
     let text = |filled: Filled| whole_output(case, filled.outcome, &filled.exact, &filled.shown);
     print("plain Rust", Ok(text(run_plain(case))));
     print("proved desk", run_proved(case).map(text));
-    verdict
+    agreed
 }
 
-fn replay_bundle(case: &BundleCase) -> ExitCode {
+fn replay_text(case: &TextCase) -> bool {
+    println!("results of {} and {} cells", case.exact_len, case.shown_len);
+    let agreed = agree(case);
+    let sheet = case.with_binary_sheet();
+    let text = |filled: Filled| whole_output(&sheet, filled.outcome, &filled.exact, &filled.shown);
+    print("plain Rust", Ok(text(case.run_plain())));
+    print("proved desk", case.run_proved().map(text));
+    agreed
+}
+
+/// What was written is told as text, also where it is a binary sheet.
+fn replay_conversion(conversion: &Conversion) -> bool {
+    println!("{} bytes lent", conversion.room);
+    let agreed = agree(conversion);
+    let text = |converted: Converted| match converted.answer {
+        Ok(_) => format!("{}\n", converted.bytes().escape_ascii()),
+        Err(refused) => format!("{refused}\n"),
+    };
+    print("plain Rust", Ok(text(conversion.run_plain())));
+    print("proved desk", conversion.run_proved().map(text));
+    agreed
+}
+
+fn replay_bundle(case: &BundleCase) -> bool {
     let BundleCase { exact_len, shown_len, outcomes_len, .. } = case;
     println!("results of {exact_len} and {shown_len} cells, {outcomes_len} outcomes");
-    let verdict = verdict(case);
+    let agreed = agree(case);
     print("plain Rust", Ok(whole_bundle_output(case, &case.run_plain())));
     print("proved desk", case.run_proved().map(|filled| whole_bundle_output(case, &filled)));
-    verdict
+    agreed
 }
 
 fn print(desk: &str, text: Result<String, String>) {
@@ -48,15 +85,11 @@ fn print(desk: &str, text: Result<String, String>) {
 }
 
 /// Said first: a desk that is wrong may leave what can't be printed as tables.
-fn verdict(case: &impl AnyCase) -> ExitCode {
-    match case.compare() {
-        Ok(outcome) => {
-            println!("both agree: {outcome}");
-            ExitCode::SUCCESS
-        }
-        Err(what) => {
-            println!("they disagree: {what}");
-            ExitCode::FAILURE
-        }
+fn agree(case: &impl AnyCase) -> bool {
+    let compared = case.compare();
+    match &compared {
+        Ok(outcome) => println!("both agree: {outcome}"),
+        Err(what) => println!("they disagree: {what}"),
     }
+    compared.is_ok()
 }

@@ -1,11 +1,13 @@
 //! The benchmark: the proved desk beside plain Rust in one run, on the same
-//! inputs, by turns. Prints a table in markdown. For a bundle it prints besides
-//! what the same sheets take in calls of their own.
+//! inputs, by turns. Prints a table in markdown: sheets, a full sheet read from
+//! text and written as text, a bundle. For a bundle it prints besides what the
+//! same sheets take in calls of their own.
 //!
 //! Usage: `speed [ROUNDS [WORD]]`, by default 200 rounds a case, and only the
 //! cases that have the word in their names.
 
-use peer::compare::{earlier_cells, run_plain, AnyCase, BundleCase, Case};
+use peer::compare::{earlier_bytes, earlier_cells, run_plain, AnyCase};
+use peer::compare::{BundleCase, Case, Conversion, Way};
 use peer::make::{Book, Bundle, Line, Random, Row, Sheet, Technique};
 use peer::plain;
 use std::hint::black_box;
@@ -28,6 +30,13 @@ fn main() {
         assert!(outcome.is_accepted(), "{name} is {outcome}");
         let [proved, plain] = measure(&case, [call_proved, call_plain], rounds);
         print_row(&name, &proved, &plain);
+    }
+    for (name, conversion) in conversions().into_iter().filter(|(name, _)| name.contains(&wanted)) {
+        let outcome = conversion.compare().expect("both desks agree on the text");
+        assert!(outcome.is_accepted(), "{name} is {outcome}");
+        let calls = [call_proved_conversion, call_plain_conversion];
+        let [proved, plain] = measure(&conversion, calls, rounds);
+        print_row(name, &proved, &plain);
     }
     if BUNDLE.contains(&wanted) {
         time_bundle(rounds);
@@ -124,6 +133,17 @@ fn full_lines(kilowatts: f64) -> Vec<Line> {
     (0..128).map(line).collect()
 }
 
+/// A full sheet by energy, so that all readings are used: its text to be read,
+/// and the sheet to be written.
+fn conversions() -> [(&'static str, Conversion); 2] {
+    let writing = Conversion::write(&full_case(1, 0.5).sheet);
+    let reading = Conversion::read(writing.run_plain().bytes());
+    [
+        ("text: a full sheet of 128 lines by energy, read", reading),
+        ("text: a full sheet of 128 lines by energy, written", writing),
+    ]
+}
+
 /// A bundle, and its sheets to be called for one by one.
 struct Works {
     case: BundleCase,
@@ -194,29 +214,36 @@ struct Results {
     exact: Vec<u64>,
     shown: Vec<u64>,
     outcomes: Vec<u64>,
+    bytes: Vec<u8>,
 }
 
 impl Results {
-    fn as_before(lengths: [usize; 3]) -> Self {
-        let [exact, shown, outcomes] = lengths.map(|length| earlier_cells(length).collect());
-        Results { exact, shown, outcomes }
+    fn as_before(cells: [usize; 3], bytes: usize) -> Self {
+        let [exact, shown, outcomes] = cells.map(|length| earlier_cells(length).collect());
+        Results { exact, shown, outcomes, bytes: earlier_bytes(bytes).collect() }
     }
 }
 
 trait Timed {
-    /// Lengths of both results and of the outcomes.
-    fn lengths(&self) -> [usize; 3];
+    fn results(&self) -> Results;
 }
 
 impl Timed for Case {
-    fn lengths(&self) -> [usize; 3] {
-        [self.exact_len, self.shown_len, 0]
+    fn results(&self) -> Results {
+        Results::as_before([self.exact_len, self.shown_len, 0], 0)
     }
 }
 
 impl Timed for Works {
-    fn lengths(&self) -> [usize; 3] {
-        [self.case.exact_len, self.case.shown_len, self.case.outcomes_len]
+    fn results(&self) -> Results {
+        let BundleCase { exact_len, shown_len, outcomes_len, .. } = self.case;
+        Results::as_before([exact_len, shown_len, outcomes_len], 0)
+    }
+}
+
+impl Timed for Conversion {
+    fn results(&self) -> Results {
+        Results::as_before([0; 3], self.room)
     }
 }
 
@@ -236,14 +263,14 @@ fn call_plain(case: &Case, results: &mut Results) {
 
 fn call_proved_bundle(works: &Works, results: &mut Results) {
     let (book, bundle) = (black_box(&works.case.book), black_box(&works.case.bundle));
-    let Results { exact, shown, outcomes } = results;
+    let Results { exact, shown, outcomes, .. } = results;
     let outcome = checkraven::account_bundle(book, bundle, exact, shown, outcomes);
     black_box(outcome.is_accepted());
 }
 
 fn call_plain_bundle(works: &Works, results: &mut Results) {
     let (book, bundle) = (black_box(&works.case.book), black_box(&works.case.bundle));
-    let Results { exact, shown, outcomes } = results;
+    let Results { exact, shown, outcomes, .. } = results;
     let answer = plain::account_bundle(book, bundle, exact, shown, outcomes);
     black_box(answer.is_ok());
 }
@@ -257,6 +284,27 @@ fn call_proved_alone(works: &Works, results: &mut Results) {
         let outcome = checkraven::account(book, black_box(sheet), exact, shown);
         black_box(outcome.is_accepted());
     }
+}
+
+fn call_proved_conversion(conversion: &Conversion, results: &mut Results) {
+    let (input, bytes) = (black_box(&conversion.input), &mut results.bytes);
+    let is_taken = match conversion.way {
+        Way::Read => checkraven::sheet_from_text_into(input, bytes).is_ok(),
+        Way::Write => checkraven::text_from_sheet_into(input, bytes).is_ok(),
+    };
+    black_box(is_taken);
+}
+
+/// A written text is looked through once more, as the Rust crate does before it
+/// hands out a `str`.
+fn call_plain_conversion(conversion: &Conversion, results: &mut Results) {
+    let (input, bytes) = (black_box(&conversion.input), &mut results.bytes);
+    let is_taken = match conversion.way {
+        Way::Read => plain::sheet_from_text(input, bytes).is_ok(),
+        Way::Write => plain::text_from_sheet(input, bytes)
+            .is_ok_and(|written| str::from_utf8(&bytes[..written]).is_ok()),
+    };
+    black_box(is_taken);
 }
 
 /// All calls by turns, and by turns which of them comes first.
@@ -279,11 +327,11 @@ fn repeats_in_a_round<C: Timed>(case: &C, call: Call<C>) -> u32 {
 
 /// Microseconds of one call.
 fn one_round<C: Timed>(case: &C, call: Call<C>, repeats: u32) -> f64 {
-    let mut results = Results::as_before(case.lengths());
+    let mut results = case.results();
     let begin = Instant::now();
     for _ in 0..repeats {
         call(case, &mut results);
     }
-    black_box(&results.shown);
+    black_box((&results.shown, &results.bytes));
     begin.elapsed().as_secs_f64() * 1e6 / repeats as f64
 }

@@ -12,7 +12,11 @@ pub struct Lent<T> {
 
 impl Lent<u8> {
     pub fn file(bytes: &[u8]) -> Self {
-        Lent::new(bytes.iter().copied(), 0x5C)
+        Lent::bytes(bytes.iter().copied())
+    }
+
+    pub fn bytes(earlier: impl Iterator<Item = u8>) -> Self {
+        Lent::new(earlier, 0x5C)
     }
 
     /// Neither the file nor what stands around it has changed.
@@ -69,4 +73,9 @@ pub fn earlier_cell(index: usize) -> u64 {
 
 pub fn earlier_cells(length: usize) -> impl Iterator<Item = u64> {
     (0..length).map(earlier_cell)
+}
+
+/// What lent bytes hold before the call: none is zero, no two neighbours alike.
+pub fn earlier_bytes(length: usize) -> impl Iterator<Item = u8> {
+    (0..length).map(|at| 1 + (at % 251) as u8)
 }

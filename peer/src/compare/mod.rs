@@ -1,9 +1,10 @@
 //! Runs the proved desk and the plain one on a case and compares everything
-//! they leave behind: the answer, every lent cell and the memory around.
+//! they leave behind: the answer, every lent cell or byte and the memory around.
 
 mod bundle;
 mod lent;
 mod tally;
+mod text;
 
 use crate::{demand3, plain};
 use checkraven::Outcome;
@@ -14,10 +15,11 @@ use std::io;
 use std::path::{Path, PathBuf};
 
 pub use bundle::{BundleCase, FilledBundle};
-pub use lent::earlier_cells;
+pub use lent::{earlier_bytes, earlier_cells};
 pub use tally::{limited, thinned, Tally};
+pub use text::{Conversion, Converted, TextCase, ThereAndBack, Way};
 
-/// A case of either sort, one sheet or a bundle.
+/// A case of any sort: one sheet, a bundle, a text sheet.
 pub trait AnyCase: Hash {
     /// Compares both desks; the agreed outcome, or what differs.
     fn compare(&self) -> Result<Outcome, String>;

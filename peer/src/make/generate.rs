@@ -183,7 +183,7 @@ fn reading(random: &mut Random, k_rule: u8) -> (u8, [u64; 3]) {
 }
 
 /// Bits of a number that reads as so many thousandths.
-fn near_thousandths(random: &mut Random, thousandths: u64) -> u64 {
+pub fn near_thousandths(random: &mut Random, thousandths: u64) -> u64 {
     let off = match random.below(3) {
         0 => 0.3,
         1 if thousandths > 0 => -0.3,

@@ -1,4 +1,4 @@
-//! Books, sheets and bundles made for tests: builders for single cases, seeded
+//! Books, sheets, bundles and texts made for tests: builders for single cases, seeded
 //! generators for many, and damages.
 
 mod bundle;
@@ -7,13 +7,14 @@ pub mod edges;
 pub mod generate;
 mod parts;
 mod random;
+pub mod text;
 pub mod works;
 
 pub use bundle::Bundle;
 pub use parts::{Book, Line, Row, Sheet, Technique};
 pub use random::Random;
 
-use crate::compare::{BundleCase, Case};
+use crate::compare::{BundleCase, Case, Conversion, TextCase, ThereAndBack};
 
 /// Each of the first with each of the second.
 pub fn every_two<A: Clone, B: Clone>(first: &[A], second: &[B]) -> Vec<(A, B)> {
@@ -43,6 +44,46 @@ pub fn any_bundle(random: &mut Random) -> BundleCase {
         works::damage_bundle(random, &mut case);
     }
     case
+}
+
+/// A case whose sheet is typed as text, some of the texts damaged.
+pub fn any_text_case(random: &mut Random) -> TextCase {
+    let size = any_size(random);
+    let Case { book, sheet, exact_len, shown_len } = generate::case_up_to(random, size);
+    TextCase { book, text: any_text(random, &sheet), exact_len, shown_len }
+}
+
+fn any_text(random: &mut Random, sheet: &[u8]) -> Vec<u8> {
+    let mut text = text::Text::of_sheet(sheet).typed(random).bytes();
+    if random.chance(50) {
+        text::damage_text(random, &mut text);
+    }
+    text
+}
+
+/// A text to be read or a sheet to be written, some of them damaged, and now and
+/// then with too little room.
+pub fn any_conversion(random: &mut Random) -> Conversion {
+    let most_lines = any_size(random).lines;
+    let lines = random.index(most_lines + 1);
+    let mut sheet = text::wide_sheet(random, lines).bytes();
+    let conversion = if random.chance(50) {
+        Conversion::read(&any_text(random, &sheet))
+    } else {
+        if random.chance(50) {
+            damage::damage_sheet(random, &mut sheet);
+        }
+        Conversion::write(&sheet)
+    };
+    match random.chance(20) {
+        true => conversion.with_room(random.index(150 * (lines + 1))),
+        false => conversion,
+    }
+}
+
+/// A case to be written as text and read again, some of the sheets damaged.
+pub fn any_there_and_back(random: &mut Random) -> ThereAndBack {
+    ThereAndBack(any_case(random))
 }
 
 fn any_size(random: &mut Random) -> generate::Size {

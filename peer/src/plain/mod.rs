@@ -8,12 +8,14 @@ mod bytes;
 pub mod reading;
 mod sheet;
 mod shown;
+mod text;
 
 use book::Book;
 use sheet::{Line, Sheet};
 
 pub use amounts::Amounts;
 pub use bundle::account_bundle;
+pub use text::{account_text, sheet_from_text, text_from_sheet};
 
 /// A refusal: its number and the line, counted from 1; 0 for whole files.
 #[derive(Clone, Copy, Debug, PartialEq, Eq)]
@@ -44,6 +46,7 @@ pub const WRONG_KIND: u32 = 8;
 pub const BAD_READING: u32 = 9;
 pub const ZERO_DIVISOR: u32 = 10;
 pub const K_ABOVE_ONE: u32 = 11;
+pub const TEXT_MALFORMED: u32 = 12;
 pub const BUNDLE_MALFORMED: u32 = 16;
 
 /// All house files have this limit.

@@ -55,7 +55,17 @@ fn k_for_energy(used: u64, allowed: u64) -> Result<Fraction, u32> {
     }
 }
 
-fn within(bits: u64, limit: u64) -> Result<u64, u32> {
+/// The limits of the readings that are used, a first; direct discharge uses none.
+pub fn limits(technique: u16, kind: u8) -> &'static [u64] {
+    match kind {
+        _ if technique == 0 => &[],
+        HOURS => &[MOST_HOURS, MOST_HOURS],
+        ENERGY => &[MOST_KILOWATT_HOURS, MOST_KILOWATTS, MOST_HOURS],
+        _ => &[],
+    }
+}
+
+pub fn within(bits: u64, limit: u64) -> Result<u64, u32> {
     thousandths(bits).filter(|&t| t <= limit).ok_or(BAD_READING)
 }
 

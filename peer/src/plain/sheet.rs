@@ -4,9 +4,9 @@ use super::book::place;
 use super::bytes::{u16_at, u32_at, u64_at};
 use super::{GRAM, KILOGRAM, MOST_BYTES, TONNE};
 
-const HEADER: usize = 16;
-const LINE: usize = 64;
-const MOST_LINES: usize = 128;
+pub const HEADER: usize = 16;
+pub const LINE: usize = 64;
+pub const MOST_LINES: usize = 128;
 const MOST_KIND: u8 = 3;
 const WATER: u8 = 1;
 
@@ -14,6 +14,7 @@ const WATER: u8 = 1;
 pub struct Sheet<'a> {
     pub medium: u8,
     pub pollutant: u8,
+    pub unit_code: u32,
     /// W: gram, kilogram or tonne in units of 10 micrograms.
     pub shown_unit: u64,
     lines: &'a [[u8; LINE]],
@@ -51,11 +52,13 @@ impl<'a> Sheet<'a> {
         if !well_formed {
             return None;
         }
-        let shown_unit = shown_unit(u32_at(file, 12))?;
+        let unit_code = u32_at(file, 12);
+        let shown_unit = shown_unit(unit_code)?;
         let lines = file[line_offset..line_end].as_chunks().0;
         lines.iter().all(line_is_well_formed).then_some(Sheet {
             medium,
             pollutant,
+            unit_code,
             shown_unit,
             lines,
         })

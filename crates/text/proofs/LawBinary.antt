@@ -4,13 +4,14 @@ use Prim.Native.Nat.{ℕ, zero, suc, _+_, _*_, _^_, _≤_, _<_}
 use mathlib.Core.Path.{_≡_, refl, sym, ap, _∙_}
 use mathlib.Core.Bool.{Bool, true, cond}
 use mathlib.Core.List.{List, [], _∷_, _++_, append-assoc}
-use native.Mathlib.Nat.{add-assoc, add-zero, mul-suc}
+use native.Mathlib.Nat.{add-zero}
 use native.Mathlib.Omega.{arith}
 use lib.Dec.{eqb, ltb}
 use lib.Ieee.{Float, binary64, ofBits}
 use lib.ListN.{length, getD, drop, length-append}
-use lib.Seq.{drop-at, drop-drop, getD-drop}
+use lib.Seq.{drop-at, drop-drop}
 use Rattle.little.specs.Read.{byteRange, u16Range, u32Range, byteAt, u16At, u32At, u64At}
+use Rattle.little.proofs.LawRead.{byte-from, u16-from, u32-from, u64-from}
 use borrow.Author.Tests.{le-leb, eq-eqb, ne-eqb}
 use Rattle.search.specs.Test.{every}
 use Rattle.search.proofs.LawTest.{either-way, all-of}
@@ -29,23 +30,6 @@ use Rattle.desk.specs.declared.key.Key.{Key}
 use Rattle.desk.specs.declared.line.Line.{Line}
 use Rattle.text.specs.Typed.{TypedSheet}
 use Rattle.text.specs.Binary.{wordsOf, numberAt, kindOf, techniqueOf, usedReadings, readingBits, lineSizes, lineWords, lineBytes, linesBytes, sheetSize, headerSizes, headerWords, binarySheet}
-
--- ---- a number is read from its place on
-
-byte-from : (s : List ℕ) (at : ℕ) → byteAt s at ≡ byteAt (drop at s) 0
-byte-from s at = rw (getD-drop, add-zero)
-
-u16-from : (s : List ℕ) (at k : ℕ) → u16At s (at + k) ≡ u16At (drop at s) k
-unfolding u16At
-u16-from s at k = rw (getD-drop at s k 0, getD-drop at s (k + 1) 0, add-assoc)
-
-u32-from : (s : List ℕ) (at k : ℕ) → u32At s (at + k) ≡ u32At (drop at s) k
-unfolding u32At
-u32-from s at k = rw (← u16-from s at k, ← u16-from s at (k + 2), add-assoc)
-
-u64-from : (s : List ℕ) (at k : ℕ) → u64At s (at + k) ≡ u64At (drop at s) k
-unfolding u64At
-u64-from s at k = rw (← u32-from s at k, ← u32-from s at (k + 4), add-assoc)
 
 -- ---- words one after the other
 
@@ -69,13 +53,13 @@ word-there (size ∷ sizes) (n ∷ numbers) rest (suc j) e h =
     (next .0, rw (append-assoc, ← drop-drop (offset sizes j) size (word size n ++ behind), skipped) (next .1))
 
 -- a word of a size that `read` reads is read there as its number
-module _ (read : List ℕ → ℕ → ℕ) (size bound : ℕ) (from : (s : List ℕ) (at : ℕ) → read s at ≡ read (drop at s) 0)
+module _ (read : List ℕ → ℕ → ℕ) (size bound : ℕ) (from : (s : List ℕ) (at k : ℕ) → read s (at + k) ≡ read (drop at s) k)
     (back : (n : ℕ) (rest : List ℕ) → n < bound → read (word size n ++ rest) 0 ≡ n) where
   read-there : (sizes numbers rest s : List ℕ) (at j : ℕ) → drop at s ≡ wordsOf sizes numbers ++ rest → length sizes ≡ length numbers
       → j < length sizes → getD sizes j 0 ≡ size → getD numbers j 0 < bound → read s (at + offset sizes j) ≡ getD numbers j 0
   read-there sizes numbers rest s at j stands e within is fits =
       let there = word-there sizes numbers rest j e within in
-      from s (at + offset sizes j)
+      rw add-zero at (from s (at + offset sizes j) 0)
       ∙ rw (← drop-drop (offset sizes j) at s, stands, there .1, is) (back (getD numbers j 0) (there .0) fits)
 
 module _ (sizes numbers rest s : List ℕ) (at : ℕ) (stands : drop at s ≡ wordsOf sizes numbers ++ rest) (e : length sizes ≡ length numbers) (j : ℕ)
@@ -85,15 +69,15 @@ module _ (sizes numbers rest s : List ℕ) (at : ℕ) (stands : drop at s ≡ wo
 
   two-there : getD sizes j 0 ≡ 2 → getD numbers j 0 < u16Range → u16At s (at + offset sizes j) ≡ getD numbers j 0
   two-there is fits =
-      read-there u16At 2 u16Range (λ t k. rw add-zero at (u16-from t k 0)) word-two sizes numbers rest s at j stands e within is fits
+      read-there u16At 2 u16Range u16-from word-two sizes numbers rest s at j stands e within is fits
 
   four-there : getD sizes j 0 ≡ 4 → getD numbers j 0 < u32Range → u32At s (at + offset sizes j) ≡ getD numbers j 0
   four-there is fits =
-      read-there u32At 4 u32Range (λ t k. rw add-zero at (u32-from t k 0)) word-four sizes numbers rest s at j stands e within is fits
+      read-there u32At 4 u32Range u32-from word-four sizes numbers rest s at j stands e within is fits
 
   eight-there : getD sizes j 0 ≡ 8 → getD numbers j 0 < 2 ^ 64 → u64At s (at + offset sizes j) ≡ getD numbers j 0
   eight-there is fits =
-      read-there u64At 8 (2 ^ 64) (λ t k. rw add-zero at (u64-from t k 0)) word-eight sizes numbers rest s at j stands e within is fits
+      read-there u64At 8 (2 ^ 64) u64-from word-eight sizes numbers rest s at j stands e within is fits
 
 -- ---- a line
 

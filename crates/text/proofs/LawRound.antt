@@ -10,6 +10,7 @@ use lib.Ieee.{Float, binary64, ofBits}
 use lib.ListN.{length, getD}
 use borrow.Author.Tests.{ne-eqb}
 use Rattle.search.proofs.LawTest.{clash}
+use Rattle.little.specs.Read.{AreBytes}
 use Rattle.amounts.specs.Reading.{partsPerUnit, takenOf, partsBits}
 use Rattle.amounts.specs.declared.reading.Taken.{Taken}
 use Rattle.amounts.specs.declared.reading.Taken.the-variants.{Is, Over, Bad}
@@ -29,10 +30,15 @@ use Rattle.desk.specs.Account.{accountOf, lineOutcome}
 use Rattle.desk.specs.declared.line.Line.{Line}
 use Rattle.desk.proofs.LawAlike.{withReading, account-alike, answers-alike, tables-alike, shown-alike, declared-alike}
 use Rattle.text.specs.Binary.{usedReadings, readingBits, binarySheet}
-use Rattle.text.specs.Written.{readingsOf, usedOf, ahead, allTaken, linesFrom}
+use Rattle.text.specs.Typed.{typedSheet}
+use Rattle.text.specs.Convert.{Gives}
+use Rattle.text.specs.Read.{sheetOfText}
+use Rattle.text.specs.Written.{readingsOf, usedOf, ahead, allTaken, linesFrom, linesText, textOfSheet}
 use Rattle.text.specs.Inner.{padded, lineNumbers, takenNumbers, linesNumbers, sheetNumbers}
 use Rattle.text.specs.Round.{AccountsAlike}
 use Rattle.text.proofs.LawBinary.{readingSaid, lineSaid, NumbersFit, headerSaid, binary-header, binary-line-said, binary-right}
+use Rattle.text.proofs.LawMade.{typed-fits}
+use Rattle.text.proofs.LawBack.{line-given, sheet-given, lines-count, written-read}
 
 -- ---- a reading
 
@@ -104,11 +110,6 @@ line-numbers s i (suc n) (suc j) h =
     let next : i + suc j ≡ suc i + j = omega arith in
     rw next (line-numbers s (suc i) n j (omega arith))
 
-lines-count : (s : List ℕ) (i n : ℕ) → length (linesNumbers (linesFrom s i n)) ≡ n
-unfolding linesFrom linesNumbers
-lines-count s i zero = refl
-lines-count s i (suc n) = ap suc (lines-count s (suc i) n)
-
 -- ---- the sheet
 
 module _ (s : List ℕ) (fits : NumbersFit (sheetNumbers s)) where
@@ -136,8 +137,8 @@ module _ (s : List ℕ) (fits : NumbersFit (sheetNumbers s)) where
     each-again : (b : List ℕ) (i : ℕ) → i < lineCount s → lineOutcome (lent b s) i ≡ lineOutcome (lent b (binarySheet (sheetNumbers s))) i
     each-again b i h = let used = taken i h in outcome-again b i h (used .0) (used .1)
 
-    alike-again : AccountsAlike s (binarySheet (sheetNumbers s))
-    alike-again =
+    sheet-again : AccountsAlike s (binarySheet (sheetNumbers s))
+    sheet-again =
         let s' = binarySheet (sheetNumbers s) in
         let both : sheetOk s ≡ sheetOk s' = right ∙ sym (binary-right (sheetNumbers s) fits) in
         record {
@@ -146,3 +147,34 @@ module _ (s : List ℕ) (fits : NumbersFit (sheetNumbers s)) where
           shown = λ b. shown-alike b s s' both count-again (each-again b) unit-again;
           declared = λ b. declared-alike b s s' both count-again (each-again b) unit-again;
         }
+
+-- ---- what was written
+
+lines-taken : (s : List ℕ) (k i n : ℕ) (w : List ℕ) → linesText k (linesFrom s i n) ≡ Gives w
+    → (j : ℕ) → j < n → (ts : List ℕ) × (allTaken (usedOf (lineOf s (i + j))) ≡ some ts)
+unfolding linesFrom
+lines-taken s k i zero w e j h = absurd (omega arith)
+lines-taken s k i (suc n) w e zero h =
+    let first = line-given k (lineOf s i) (linesFrom s (suc i) n) w e in
+    (first .thousandths, rw (add-zero i) (first .taken))
+lines-taken s k i (suc n) w e (suc j) h =
+    let first = line-given k (lineOf s i) (linesFrom s (suc i) n) w e in
+    let next : i + suc j ≡ suc i + j = omega arith in
+    rw next (lines-taken s (k + 1) (suc i) n (first .front .rest) (first .front .gives) j (omega arith))
+
+module _ (s text : List ℕ) (bytes : AreBytes s) (written : textOfSheet s ≡ Gives text) where
+  numbers-again : typedSheet text ≡ some (sheetNumbers s)
+  numbers-again = written-read s text bytes written .1
+
+  taken-each : (i : ℕ) → i < lineCount s → (ts : List ℕ) × (allTaken (usedOf (lineOf s i)) ≡ some ts)
+  taken-each i h =
+      let given = sheet-given s text written in
+      rw zero-add at (lines-taken s 0 0 (lineCount s) (given .front .rest) (given .front .gives) i h)
+
+  -- the reader takes it
+  pub read-again : sheetOfText text ≡ Gives (binarySheet (sheetNumbers s))
+  unfolding sheetOfText
+  read-again = rw numbers-again
+
+  pub alike-again : AccountsAlike s (binarySheet (sheetNumbers s))
+  alike-again = sheet-again s (typed-fits text (sheetNumbers s) numbers-again) (sheet-given s text written .right) taken-each

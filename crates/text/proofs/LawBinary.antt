@@ -1,8 +1,8 @@
--- The binary sheet of typed numbers, as the desk reads it: each word is read as its number, so the header and every line are those that were
--- typed, and the sheet is right.
+-- The binary sheet of typed numbers, as the desk reads it: each word is read as its number, so the header and every line are what was typed,
+-- and the sheet is right.
 use Prim.Native.Nat.{ℕ, zero, suc, _+_, _*_, _^_, _≤_, _<_}
-use mathlib.Core.Path.{_≡_, refl, sym, ap, _∙_}
-use mathlib.Core.Bool.{Bool, true, cond}
+use mathlib.Core.Path.{_≡_, refl, ap, _∙_}
+use mathlib.Core.Bool.{true, cond}
 use mathlib.Core.List.{List, [], _∷_, _++_, append-assoc}
 use native.Mathlib.Nat.{add-zero}
 use native.Mathlib.Omega.{arith}
@@ -10,14 +10,13 @@ use lib.Dec.{eqb, ltb}
 use lib.Ieee.{Float, binary64, ofBits}
 use lib.ListN.{length, getD, drop, length-append}
 use lib.Seq.{drop-at, drop-drop}
+use borrow.Author.Tests.{le-leb, eq-eqb, ne-eqb}
 use Rattle.little.specs.Read.{byteRange, u16Range, u32Range, byteAt, u16At, u32At, u64At}
 use Rattle.little.proofs.LawRead.{byte-from, u16-from, u32-from, u64-from}
-use borrow.Author.Tests.{le-leb, eq-eqb, ne-eqb}
 use Rattle.search.specs.Test.{every}
 use Rattle.search.proofs.LawTest.{either-way, all-of}
 use Rattle.numerals.specs.Word.{word}
 use Rattle.numerals.proofs.LawWord.{length-word, word-one, word-two, word-four, word-eight}
-use Rattle.amounts.specs.Reading.{partsBits}
 use Rattle.amounts.proofs.LawParts.{parts-fit}
 use Rattle.headers.specs.House.{mostBytes, fileOk}
 use Rattle.headers.specs.Sheet.{SheetHeader, sheetHeader, sheetHeaderSize, lineSize, lineCount, mostLines, sheetFits, sheetHeaderOk}
@@ -25,11 +24,11 @@ use Rattle.shares.specs.declared.share.Reading.{Reading}
 use Rattle.shares.specs.declared.share.Reading.the-variants.{None, Hours, Energy, Throughout}
 use Rattle.desk.specs.Key.{keyFrom}
 use Rattle.desk.specs.Sheet.{lineStart, kindAt, lineOk, sheetOk}
-use Rattle.desk.specs.Line.{floatAt, readingAt, lineAt, lineOf}
-use Rattle.desk.specs.declared.key.Key.{Key}
+use Rattle.desk.specs.Line.{readingAt, lineAt, lineOf}
 use Rattle.desk.specs.declared.line.Line.{Line}
 use Rattle.text.specs.Typed.{TypedSheet}
-use Rattle.text.specs.Binary.{wordsOf, numberAt, kindOf, techniqueOf, usedReadings, readingBits, lineSizes, lineWords, lineBytes, linesBytes, sheetSize, headerSizes, headerWords, binarySheet}
+use Rattle.text.specs.Binary.{wordsOf, numberAt, techniqueOf, kindOf, usedReadings, readingBits, lineSizes, lineWords, lineBytes}
+use Rattle.text.specs.Binary.{linesBytes, sheetSize, headerSizes, headerWords, binarySheet}
 
 -- ---- words one after the other
 
@@ -68,16 +67,13 @@ module _ (sizes numbers rest s : List ℕ) (at : ℕ) (stands : drop at s ≡ wo
   one-there is fits = read-there byteAt 1 byteRange byte-from word-one sizes numbers rest s at j stands e within is fits
 
   two-there : getD sizes j 0 ≡ 2 → getD numbers j 0 < u16Range → u16At s (at + offset sizes j) ≡ getD numbers j 0
-  two-there is fits =
-      read-there u16At 2 u16Range u16-from word-two sizes numbers rest s at j stands e within is fits
+  two-there is fits = read-there u16At 2 u16Range u16-from word-two sizes numbers rest s at j stands e within is fits
 
   four-there : getD sizes j 0 ≡ 4 → getD numbers j 0 < u32Range → u32At s (at + offset sizes j) ≡ getD numbers j 0
-  four-there is fits =
-      read-there u32At 4 u32Range u32-from word-four sizes numbers rest s at j stands e within is fits
+  four-there is fits = read-there u32At 4 u32Range u32-from word-four sizes numbers rest s at j stands e within is fits
 
   eight-there : getD sizes j 0 ≡ 8 → getD numbers j 0 < 2 ^ 64 → u64At s (at + offset sizes j) ≡ getD numbers j 0
-  eight-there is fits =
-      read-there u64At 8 (2 ^ 64) u64-from word-eight sizes numbers rest s at j stands e within is fits
+  eight-there is fits = read-there u64At 8 (2 ^ 64) u64-from word-eight sizes numbers rest s at j stands e within is fits
 
 -- ---- a line
 
@@ -87,11 +83,6 @@ pub record LineFits (line : List ℕ) : Type 0 where
   pub kind : kindOf line ≤ 3
   pub product : numberAt line 8 < 2 ^ 64
   pub material : numberAt line 9 < 2 ^ 64
-
-bits-fit : (line : List ℕ) (r : ℕ) → readingBits line r < 2 ^ 64
-unfolding readingBits
-bits-fit line r =
-    either-way (ltb r (usedReadings (techniqueOf line) (kindOf line))) (λ e. rw e (parts-fit (numberAt line (10 + r)))) (λ e. rw e (omega arith))
 
 abbrev pub floatSaid : (line : List ℕ) (r : ℕ) → Float
 floatSaid line r = ofBits binary64 (readingBits line r)
@@ -126,40 +117,52 @@ line-size : (line : List ℕ) → length (lineBytes line) ≡ lineSize
 unfolding wordsOf lineWords word
 line-size line = refl
 
+-- where a line's bytes stand from `at` on
 module _ (s line rest : List ℕ) (at : ℕ) (stands : drop at s ≡ lineBytes line ++ rest) where
   same : length lineSizes ≡ length (lineWords line)
   unfolding lineWords
   same = refl
 
-  -- words 7 and 8 are the kind and a zero byte, word 14 is eight zero bytes
+  one : (j : ℕ) → j < 15 → getD lineSizes j 0 ≡ 1 → getD (lineWords line) j 0 < byteRange → byteAt s (at + offset lineSizes j) ≡ getD (lineWords line) j 0
+  one = one-there lineSizes (lineWords line) rest s at stands same
+
+  two : (j : ℕ) → j < 15 → getD lineSizes j 0 ≡ 2 → getD (lineWords line) j 0 < u16Range → u16At s (at + offset lineSizes j) ≡ getD (lineWords line) j 0
+  two = two-there lineSizes (lineWords line) rest s at stands same
+
+  eight : (j : ℕ) → j < 15 → getD lineSizes j 0 ≡ 8 → getD (lineWords line) j 0 < 2 ^ 64 → u64At s (at + offset lineSizes j) ≡ getD (lineWords line) j 0
+  eight = eight-there lineSizes (lineWords line) rest s at stands same
+
   zero-byte : byteAt s (at + 15) ≡ 0
   unfolding lineWords
-  zero-byte = one-there lineSizes (lineWords line) rest s at stands same 8 (omega arith) refl (omega arith)
+  zero-byte = one 8 (omega arith) refl (omega arith)
 
   zero-bytes : u64At s (at + 56) ≡ 0
   unfolding lineWords
-  zero-bytes = eight-there lineSizes (lineWords line) rest s at stands same 14 (omega arith) refl (omega arith)
+  zero-bytes = eight 14 (omega arith) refl (omega arith)
+
+  reading-bits : (r : ℕ) → readingBits line r < 2 ^ 64
+  unfolding readingBits
+  reading-bits r =
+      either-way (ltb r (usedReadings (techniqueOf line) (kindOf line))) (λ e. rw e (parts-fit (numberAt line (10 + r)))) (λ e. rw e (omega arith))
 
   module _ (fits : LineFits line) where
     kind-there : kindAt s at ≡ kindOf line
     unfolding lineWords
-    kind-there = one-there lineSizes (lineWords line) rest s at stands same 7 (omega arith) refl (omega (arith, fits .kind))
+    kind-there = one 7 (omega arith) refl (omega (arith, fits .kind))
 
     reading-there : readingAt s at ≡ readingSaid line
     unfolding lineWords readingAt
     reading-there =
-        let eight = eight-there lineSizes (lineWords line) rest s at stands same in
-        let a : u64At s (at + 32) ≡ readingBits line 0 = eight 11 (omega arith) refl (bits-fit line 0) in
-        let b : u64At s (at + 40) ≡ readingBits line 1 = eight 12 (omega arith) refl (bits-fit line 1) in
-        let c : u64At s (at + 48) ≡ readingBits line 2 = eight 13 (omega arith) refl (bits-fit line 2) in
+        let a : u64At s (at + 32) ≡ readingBits line 0 = eight 11 (omega arith) refl (reading-bits 0) in
+        let b : u64At s (at + 40) ≡ readingBits line 1 = eight 12 (omega arith) refl (reading-bits 1) in
+        let c : u64At s (at + 48) ≡ readingBits line 2 = eight 13 (omega arith) refl (reading-bits 2) in
         rw (kind-there, a, b, c)
 
+    -- its key has the header's medium and pollutant
     line-there : (header : List ℕ) → sheetHeader s .medium ≡ numberAt header 0 → sheetHeader s .pollutant ≡ numberAt header 1
         → lineAt s at ≡ lineSaid header line
     unfolding lineWords keyFrom
     line-there header medium pollutant =
-        let two = two-there lineSizes (lineWords line) rest s at stands same in
-        let eight = eight-there lineSizes (lineWords line) rest s at stands same in
         let industry : u16At s at ≡ numberAt line 0 = rw add-zero at (two 0 (omega arith) refl (fits .codes 0 (omega arith))) in
         let product = two 1 (omega arith) refl (fits .codes 1 (omega arith)) in
         let material = two 2 (omega arith) refl (fits .codes 2 (omega arith)) in
@@ -168,8 +171,8 @@ module _ (s line rest : List ℕ) (at : ℕ) (stands : drop at s ≡ lineBytes l
         let technique = two 5 (omega arith) refl (fits .codes 5 (omega arith)) in
         let reuse = two 6 (omega arith) refl (fits .codes 6 (omega arith)) in
         let produced = eight 9 (omega arith) refl (fits .product) in
-        let consumed = eight 10 (omega arith) refl (fits .material) in
-        rw (medium, pollutant, industry, product, material, process, scale, technique, reuse, produced, consumed, reading-there)
+        let used = eight 10 (omega arith) refl (fits .material) in
+        rw (medium, pollutant, industry, product, material, process, scale, technique, reuse, produced, used, reading-there)
 
 -- ---- the sheet
 

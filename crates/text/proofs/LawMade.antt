@@ -1,8 +1,8 @@
 -- Every sheet that is read from a text is right: what a field takes has room in the binary sheet, and a right sheet allows it.
-use Prim.Native.Nat.{ℕ, zero, suc, _+_, _*_, _^_, _≤_, _<_}
-use mathlib.Core.Path.{_≡_, refl, sym, _∙_}
-use mathlib.Core.Bool.{true, false, cond}
-use mathlib.Core.List.{List, [], _∷_, _++_}
+use Prim.Native.Nat.{ℕ, zero, suc, _≤_, _<_}
+use mathlib.Core.Path.{_≡_, refl, _∙_}
+use mathlib.Core.Bool.{true}
+use mathlib.Core.List.{List, [], _∷_}
 use mathlib.Core.Option.{Option, none, some}
 use native.Mathlib.Omega.{arith}
 use lib.Dec.{leb}
@@ -16,12 +16,11 @@ use Rattle.numerals.specs.declared.typed.Typed.{Typed}
 use Rattle.numerals.specs.declared.typed.Typed.the-variants.{Is, Malformed}
 use Rattle.numerals.proofs.LawTyped.{number-most}
 use Rattle.records.specs.Records.{contentOf, recordsOf}
-use Rattle.answers.specs.declared.answer.FileFault.the-variants.{TextMalformed}
-use Rattle.answers.specs.declared.answer.Outcome.the-variants.{RefusedFile}
 use Rattle.desk.specs.Sheet.{sheetOk}
-use Rattle.text.specs.Typed.{aReading, aCode, anAmount, headerFields, lineFields, fieldNumber, followed, numbersIn, before, linesIn, TypedSheet, noneZero, fewLines, sheetTyped, sheetIn, typedSheet}
+use Rattle.text.specs.Typed.{aReading, aCode, anAmount, headerFields, lineFields, fieldNumber, followed, numbersIn, before, linesIn}
+use Rattle.text.specs.Typed.{TypedSheet, noneZero, fewLines, sheetTyped, sheetIn, typedSheet}
 use Rattle.text.specs.Binary.{binarySheet, sheetSize}
-use Rattle.text.specs.Convert.{Made, Gives, Refuses}
+use Rattle.text.specs.Convert.{Gives}
 use Rattle.text.specs.Read.{binaryOf, sheetOfText}
 use Rattle.text.proofs.LawBinary.{LineFits, NumbersFit, binary-size, binary-right}
 

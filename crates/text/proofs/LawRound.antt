@@ -1,5 +1,5 @@
--- A sheet that was written and read again accounts as it did: a used reading is read back as what it was taken as, and no other is looked at.
-use Prim.Native.Nat.{ℕ, zero, suc, _+_, _*_, _^_, _≤_, _<_}
+-- A sheet that was written and read again accounts as it did: a used reading is taken as the same thousandths, and no other is looked at.
+use Prim.Native.Nat.{ℕ, zero, suc, _+_, _^_, _<_}
 use mathlib.Core.Path.{_≡_, refl, sym, ap, _∙_}
 use mathlib.Core.Bool.{true}
 use mathlib.Core.List.{List, [], _∷_}
@@ -18,6 +18,7 @@ use Rattle.amounts.proofs.LawReading.{taken-most}
 use Rattle.amounts.proofs.LawParts.{parts-back}
 use Rattle.headers.specs.Sheet.{SheetHeader, sheetHeader, lineCount}
 use Rattle.headers.specs.Unit.{unitOf, unitOfSheet}
+use Rattle.answers.specs.declared.answer.Outcome.{Outcome}
 use Rattle.shares.specs.Share.{mostHours, mostKilowatts, mostKilowattHours, hoursOf, kwOf, kwhOf, shareBy}
 use Rattle.shares.specs.declared.share.Reading.{Reading}
 use Rattle.shares.specs.declared.share.Reading.the-variants.{None, Hours, Energy, Throughout}
@@ -27,6 +28,7 @@ use Rattle.desk.specs.Sheet.{sheetOk}
 use Rattle.desk.specs.Line.{lineOf}
 use Rattle.desk.specs.Lent.{lent}
 use Rattle.desk.specs.Account.{accountOf, lineOutcome}
+use Rattle.desk.specs.Declare.{Declared}
 use Rattle.desk.specs.declared.line.Line.{Line}
 use Rattle.desk.proofs.LawAlike.{withReading, account-alike, answers-alike, tables-alike, shown-alike, declared-alike}
 use Rattle.text.specs.Binary.{usedReadings, readingBits, binarySheet}
@@ -34,33 +36,35 @@ use Rattle.text.specs.Typed.{typedSheet}
 use Rattle.text.specs.Convert.{Gives}
 use Rattle.text.specs.Read.{sheetOfText}
 use Rattle.text.specs.Written.{readingsOf, usedOf, ahead, allTaken, linesFrom, linesText, textOfSheet}
+use Rattle.text.specs.Declare.{DeclaredText}
 use Rattle.text.specs.Inner.{padded, lineNumbers, takenNumbers, linesNumbers, sheetNumbers}
-use Rattle.text.specs.Round.{AccountsAlike}
+use Rattle.text.specs.Round.{AccountsAlike, ReadAgain}
 use Rattle.text.proofs.LawBinary.{readingSaid, lineSaid, NumbersFit, headerSaid, binary-header, binary-line-said, binary-right}
 use Rattle.text.proofs.LawMade.{typed-fits}
 use Rattle.text.proofs.LawBack.{line-given, sheet-given, lines-count, written-read}
 
 -- ---- a reading
 
--- t parts that x was taken as, within a limit, are what the float of t parts is taken as
+-- x and the binary64 of the thousandths that it is taken as are taken alike
 taken-again : (most : ℕ) → most < 2 ^ 32 → (x : Float) (t : ℕ) → takenOf partsPerUnit most x ≡ Is t
     → takenOf partsPerUnit most x ≡ takenOf partsPerUnit most (ofBits binary64 (partsBits t))
 taken-again most few x t e = e ∙ sym (parts-back most t few (taken-most partsPerUnit most t x e))
 
-first-taken : {P : Type 0} (first : Taken) (others : List Taken) (ts : List ℕ) → allTaken (first ∷ others) ≡ some ts
+-- where all are taken the first is, and the others are
+taken-first : {P : Type 0} (first : Taken) (others : List Taken) (ts : List ℕ) → allTaken (first ∷ others) ≡ some ts
     → ((t : ℕ) (rest : List ℕ) → first ≡ Is t → allTaken others ≡ some rest → t ∷ rest ≡ ts → P) → P
 unfolding allTaken
-first-taken Over others ts h then = clash (cc)
-first-taken Bad others ts h then = clash (cc)
-first-taken {P} (Is t) others ts h then = go (allTaken others) refl h
+taken-first Over others ts h then = clash (cc)
+taken-first Bad others ts h then = clash (cc)
+taken-first {P} (Is t) others ts h then = go (allTaken others) refl h
   where
     go : (o : Option (List ℕ)) → allTaken others ≡ o → ahead t o ≡ some ts → P
     go none e h = clash (cc)
     go (some rest) e h = then t rest refl e (cc)
 
-last-taken : {P : Type 0} (last : Taken) (ts : List ℕ) → allTaken (last ∷ []) ≡ some ts → ((t : ℕ) → last ≡ Is t → t ∷ [] ≡ ts → P) → P
+taken-last : {P : Type 0} (last : Taken) (ts : List ℕ) → allTaken (last ∷ []) ≡ some ts → ((t : ℕ) → last ≡ Is t → t ∷ [] ≡ ts → P) → P
 unfolding allTaken
-last-taken last ts h then = first-taken last [] ts h (λ t rest is none all. let empty : [] ≡ rest = cc in then t is (rw empty all))
+taken-last last ts h then = taken-first last [] ts h (λ t rest is none all. let empty : [] ≡ rest = cc in then t is (rw empty all))
 
 -- of a line that looks at its reading
 module _ (line : Line) (treated : line .technique ≡ 0 → ⊥) where
@@ -70,16 +74,16 @@ module _ (line : Line) (treated : line .technique ≡ 0 → ⊥) where
   reading-again None ts h rule = refl
   reading-again Throughout ts h rule = refl
   reading-again (Hours run production) ts h rule =
-      first-taken (hoursOf run) _ ts h
-      (λ a rest ran behind all. last-taken (hoursOf production) rest behind
+      taken-first (hoursOf run) _ ts h
+      (λ a rest ran behind all. taken-last (hoursOf production) rest behind
       (λ b produced both.
       let p = taken-again mostHours (omega arith) run a ran in
       let q = taken-again mostHours (omega arith) production b produced in
       rw (ne-eqb (line .technique) 0 treated, ← all, ← both) (sym (hours-alike run production _ _ p q rule))))
   reading-again (Energy e) ts h rule =
-      first-taken (kwhOf (e .kwh)) _ ts h
-      (λ a rest used behind all. first-taken (kwOf (e .kw)) _ rest behind
-      (λ b more rated last both. last-taken (hoursOf (e .hours)) more last
+      taken-first (kwhOf (e .kwh)) _ ts h
+      (λ a rest used behind all. taken-first (kwOf (e .kw)) _ rest behind
+      (λ b more rated last both. taken-last (hoursOf (e .hours)) more last
       (λ c ran three.
       let kwh = taken-again mostKilowattHours (omega arith) (e .kwh) a used in
       let kw = taken-again mostKilowatts (omega arith) (e .kw) b rated in
@@ -94,7 +98,7 @@ line-again b line ts h =
     account-alike b line (readingSaid (lineNumbers line ts)) (line .reading)
     (λ row hit treated. reading-again line treated (line .reading) ts (rw (ne-eqb (line .technique) 0 treated) at h) (row .rule))
 
--- its other numbers are the line's
+-- all else is read again as it was
 line-said : (s : List ℕ) (i : ℕ) (ts : List ℕ)
     → lineSaid (sheetNumbers s .header) (lineNumbers (lineOf s i) ts) ≡ withReading (lineOf s i) (readingSaid (lineNumbers (lineOf s i) ts))
 unfolding sheetNumbers lineNumbers lineOf keyFrom
@@ -171,10 +175,20 @@ module _ (s text : List ℕ) (bytes : AreBytes s) (written : textOfSheet s ≡ G
       let given = sheet-given s text written in
       rw zero-add at (lines-taken s 0 0 (lineCount s) (given .front .rest) (given .front .gives) i h)
 
-  -- the reader takes it
-  pub read-again : sheetOfText text ≡ Gives (binarySheet (sheetNumbers s))
+  pub made-again : sheetOfText text ≡ Gives (binarySheet (sheetNumbers s))
   unfolding sheetOfText
-  read-again = rw numbers-again
+  made-again = rw numbers-again
 
-  pub alike-again : AccountsAlike s (binarySheet (sheetNumbers s))
-  alike-again = sheet-again s (typed-fits text (sheetNumbers s) numbers-again) (sheet-given s text written .right) taken-each
+  pub read-again : ReadAgain s text
+  read-again =
+      record {
+        sheet = binarySheet (sheetNumbers s);
+        gives = made-again;
+        alike = sheet-again s (typed-fits text (sheetNumbers s) numbers-again) (sheet-given s text written .right) taken-each;
+      }
+
+  -- so the desk answers and leaves for the text what it does for the sheet
+  pub declared-again : (book exact shown : List ℕ) (r : Outcome) (exact' shown' : List ℕ) → Declared (lent book s) exact shown r exact' shown'
+      → DeclaredText book text exact shown r exact' shown'
+  declared-again book exact shown r exact' shown' promised =
+      rw (read-again .gives) (read-again .alike .declared book exact shown r exact' shown' promised)

@@ -1,4 +1,4 @@
--- Two sheets that account alike, as a sheet does with the one that is read again from its text.
+-- What is read again from a sheet's text accounts as the sheet does.
 use Prim.Native.Nat.{ℕ}
 use mathlib.Core.Path.{_≡_}
 use mathlib.Core.List.{List}
@@ -8,6 +8,8 @@ use Rattle.desk.specs.Lent.{lent}
 use Rattle.desk.specs.Account.{lineOutcome}
 use Rattle.desk.specs.Table.{tableOf, answerOf}
 use Rattle.desk.specs.Declare.{shownAfter, Declared}
+use Rattle.text.specs.Convert.{Gives}
+use Rattle.text.specs.Read.{sheetOfText}
 
 -- the exact table of a sheet under a book
 abbrev pub exactTable : (book s : List ℕ) → List ℕ
@@ -21,3 +23,9 @@ pub record AccountsAlike (s s' : List ℕ) : Type 0 where
   -- so what the desk promises to answer and to leave for the one, it promises for the other
   pub declared : (book exact shown : List ℕ) (r : Outcome) (exact' shown' : List ℕ) → Declared (lent book s) exact shown r exact' shown'
       → Declared (lent book s') exact shown r exact' shown'
+
+-- the reader takes the text, and the sheet that it makes accounts as this one
+pub record ReadAgain (s text : List ℕ) : Type 0 where
+  pub sheet : List ℕ
+  pub gives : sheetOfText text ≡ Gives sheet
+  pub alike : AccountsAlike s sheet

@@ -1,6 +1,6 @@
 -- A fan that ran longer than its furnace: the line is accounted for as one that ran throughout, and demand 2 reads its k as exactly 1.
 use Prim.Native.Nat.{ℕ, _+_, _<_}
-use mathlib.Core.Path.{_≡_, refl, sym, _∙_}
+use mathlib.Core.Path.{_≡_, sym, _∙_}
 use mathlib.Core.List.{List}
 use lib.Ieee.{Float}
 use borrow.Author.Tests.{ne-eqb}
@@ -10,54 +10,18 @@ use Rattle.search.proofs.LawTest.{clash}
 use Rattle.amounts.specs.declared.reading.Taken.the-variants.{Is}
 use Rattle.headers.specs.Book.{techniqueBlock}
 use Rattle.shares.specs.Share.{hoursOf, goesWith, shareOf, shareBy}
-use Rattle.shares.specs.declared.share.Reading.{Reading}
 use Rattle.shares.specs.declared.share.Reading.the-variants.{Hours, Throughout}
 use Rattle.shares.proofs.LawExcess.{outran-as-throughout}
 use Rattle.desk.specs.Book.{techniqueEfficiency}
 use Rattle.desk.specs.Row.{rowOf}
 use Rattle.desk.specs.Technique.{techniqueIndex}
-use Rattle.desk.specs.Account.{byTechnique, treatmentOf, generatedOf, byTreatment, accountOf}
+use Rattle.desk.specs.Account.{byTechnique, treatmentOf, accountOf}
 use Rattle.desk.specs.Demands.{LineDemand}
 use Rattle.desk.specs.declared.line.Line.{Line}
 use Rattle.desk.specs.declared.row.Row.{Row}
 use Rattle.desk.specs.declared.row.RowSearch.the-variants.{Hit}
-use Rattle.desk.specs.declared.account.Treatment.{Treatment}
-use Rattle.desk.specs.declared.account.Treatment.the-variants.{By, NoTreatment}
-
--- the line with another reading
-abbrev pub withReading : Line → Reading → Line
-withReading line reading =
-    record {
-      key = line .key;
-      technique = line .technique;
-      reuse = line .reuse;
-      product = line .product;
-      material = line .material;
-      reading = reading;
-    }
-
--- what a treatment makes of the line does not depend on the reading
-made-alike : (row : Row) (line : Line) (one other : Reading) (k : Treatment)
-    → byTreatment row (withReading line one) k ≡ byTreatment row (withReading line other) k
-unfolding generatedOf
-made-alike row line one other (NoTreatment fault) = refl
-made-alike row line one other (By e n d) = refl
-
-module _ (t : List ℕ) (row : Row) (one other : Reading) (alike : shareBy one (row .rule) ≡ shareBy other (row .rule)) where
-  technique-alike : (place : Found) → byTechnique t row one place ≡ byTechnique t row other place
-  technique-alike Nothing = refl
-  technique-alike (At j) = rw alike
-
-  treatment-alike : (technique : ℕ) → treatmentOf t row technique one ≡ treatmentOf t row technique other
-  unfolding treatmentOf
-  treatment-alike technique = rw (technique-alike (techniqueIndex t (row .first) (row .techniques) technique))
-
-account-alike : (b : List ℕ) (line : Line) (row : Row) (one other : Reading) → rowOf b (line .key) ≡ Hit row
-    → shareBy one (row .rule) ≡ shareBy other (row .rule) → accountOf b (withReading line one) ≡ accountOf b (withReading line other)
-unfolding accountOf
-account-alike b line row one other hit alike =
-    let same = treatment-alike (techniqueBlock b) row one other alike (line .technique) in
-    rw (hit, same, made-alike row line one other (treatmentOf (techniqueBlock b) row (line .technique) other))
+use Rattle.desk.specs.declared.account.Treatment.the-variants.{By}
+use Rattle.desk.proofs.LawAlike.{withReading, technique-alike, account-alike}
 
 -- of a row by hours, 'ran throughout' makes k exactly 1
 throughout-k : (t : List ℕ) (row : Row) (place : Found) (e n d : ℕ) → row .rule ≡ 1 → byTechnique t row Throughout place ≡ By e n d
@@ -76,7 +40,9 @@ module _ (run production : Float) (more most : ℕ) (ran : hoursOf run ≡ Is mo
 
   pub outran-line : (b : List ℕ) (line : Line) (row : Row) → rowOf b (line .key) ≡ Hit row → row .rule ≡ 1
       → accountOf b (withReading line (Hours run production)) ≡ accountOf b (withReading line Throughout)
-  outran-line b line row hit by-hours = account-alike b line row (Hours run production) Throughout hit (alike row by-hours)
+  outran-line b line row hit by-hours =
+      account-alike b line (Hours run production) Throughout
+      (λ found there treated. let same : row ≡ found = cc in rw (← same) (alike row by-hours))
 
   -- k of the exact value that D is held to
   pub outran-demand : (b : List ℕ) (line : Line) (G R U D : ℕ) (demand : LineDemand b line G R U D) → demand .row .rule ≡ 1

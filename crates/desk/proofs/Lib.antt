@@ -6,10 +6,11 @@ pub mod LawOrder
 pub mod LawRow
 pub mod LawTechnique
 pub mod LawAccount
-pub mod LawOutran
 pub mod LawTable
 pub mod LawDeclare
 pub mod LawDemands
+pub mod LawAlike
+pub mod LawOutran
 pub mod LawOnce
 pub mod LawWorks
 pub mod LawShutOut

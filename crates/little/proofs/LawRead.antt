@@ -1,10 +1,12 @@
--- Past the end every number is 0, and of bytes every number is below its range: each of its halves is, by the law of half its bytes.
--- Assumes nothing.
+-- Past the end every number is 0, of bytes every number is below its range, and a number is what stands from its place on: each of its
+-- halves is, by the law of half its bytes. Assumes nothing.
 use Prim.Native.Nat.{ℕ, _+_, _^_, _≤_, _<_}
 use mathlib.Core.List.{List}
-use mathlib.Core.Path.{_≡_}
+use mathlib.Core.Path.{_≡_, sym}
+use native.Mathlib.Nat.{add-assoc}
 use native.Mathlib.Omega.{arith}
-use lib.ListN.{length, List·getD-eq-default}
+use lib.ListN.{length, drop, List·getD-eq-default}
+use lib.Seq.{getD-drop}
 use Rattle.little.specs.Read.{u16Range, u32Range, byteAt, u16At, u32At, u64At, AreBytes}
 
 pub byte-past : (s : List ℕ) (at : ℕ) → length s ≤ at → byteAt s at ≡ 0
@@ -33,3 +35,18 @@ u32-below s bytes at = omega (arith, u16-below s bytes at, u16-below s bytes (at
 pub u64-below : (s : List ℕ) → AreBytes s → (at : ℕ) → u64At s at < 2 ^ 64
 unfolding u64At
 u64-below s bytes at = omega (arith, u32-below s bytes at, u32-below s bytes (at + 4))
+
+pub byte-from : (s : List ℕ) (at k : ℕ) → byteAt s (at + k) ≡ byteAt (drop at s) k
+byte-from s at k = sym (getD-drop at s k 0)
+
+pub u16-from : (s : List ℕ) (at k : ℕ) → u16At s (at + k) ≡ u16At (drop at s) k
+unfolding u16At
+u16-from s at k = rw (← byte-from s at k, ← byte-from s at (k + 1), add-assoc)
+
+pub u32-from : (s : List ℕ) (at k : ℕ) → u32At s (at + k) ≡ u32At (drop at s) k
+unfolding u32At
+u32-from s at k = rw (← u16-from s at k, ← u16-from s at (k + 2), add-assoc)
+
+pub u64-from : (s : List ℕ) (at k : ℕ) → u64At s (at + k) ≡ u64At (drop at s) k
+unfolding u64At
+u64-from s at k = rw (← u32-from s at k, ← u32-from s at (k + 4), add-assoc)

@@ -6,6 +6,7 @@ use mathlib.Core.Logic.{⊎-elim}
 use native.Mathlib.Nat.{mul-le-mul, pos-of-ne-zero}
 use native.Mathlib.Omega.{arith}
 use lib.Dec.{leb, eqb}
+use lib.Ieee.{Float}
 use borrow.Author.Tests.{eqb-true, eqb-false, leb-true, leb-false, eq-eqb, ne-eqb, le-leb, lt-leb}
 use denote.Enum.Declared.{tagOf}
 use types.Run.{OneOf}
@@ -19,6 +20,7 @@ use Rattle.amounts.proofs.reading.Taken.{the-type}
 use Rattle.answers.specs.declared.answer.LineFault.the-variants.{WrongKind, BadReading, ZeroDivisor, KAboveOne}
 use Rattle.shares.specs.Share.{mostHours, mostKilowatts, hoursOf, kwOf, kwhOf, ratio, exactlyOne, ifTaken}
 use Rattle.shares.specs.Share.{goesWith, hoursShare, energyShare, shareOf, shareBy}
+use Rattle.shares.specs.declared.share.EnergyReading.{EnergyReading}
 use Rattle.shares.specs.declared.share.Reading.{Reading}
 use Rattle.shares.specs.declared.share.Reading.the-variants.{None, Hours, Energy, Throughout}
 use Rattle.shares.specs.declared.share.Share.{Share}
@@ -121,3 +123,15 @@ share-fair reading rule n d h =
     either-way (goesWith reading rule)
     (λ g. of-fair reading n d (rw g at h))
     (λ g. let r : NoShare WrongKind ≡ Part n d = rw g at h in clash (cc))
+
+-- ---- k depends on a reading only through its kind and what its numbers are taken as
+
+pub hours-alike : (run production run' production' : Float) → hoursOf run ≡ hoursOf run' → hoursOf production ≡ hoursOf production'
+    → (rule : ℕ) → shareBy (Hours run production) rule ≡ shareBy (Hours run' production') rule
+unfolding shareBy goesWith shareOf hoursShare
+hours-alike run production run' production' p q rule = rw (p, q)
+
+pub energy-alike : (e e' : EnergyReading) → kwhOf (e .kwh) ≡ kwhOf (e' .kwh) → kwOf (e .kw) ≡ kwOf (e' .kw) → hoursOf (e .hours) ≡ hoursOf (e' .hours)
+    → (rule : ℕ) → shareBy (Energy e) rule ≡ shareBy (Energy e') rule
+unfolding shareBy goesWith shareOf energyShare
+energy-alike e e' p q r rule = rw (p, q, r)

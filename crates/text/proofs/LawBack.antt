@@ -149,7 +149,7 @@ lines-again s bytes k i (suc n) w e =
     let others = lines-again s bytes (k + 1) (suc i) n (g .front .rest) (g .front .gives) in
     rw (g .front .all, line-record line ts (g .front .rest), own, others, g .taken)
 
-lines-count : (s : List ℕ) (i n : ℕ) → length (linesNumbers (linesFrom s i n)) ≡ n
+pub lines-count : (s : List ℕ) (i n : ℕ) → length (linesNumbers (linesFrom s i n)) ≡ n
 unfolding linesFrom linesNumbers
 lines-count s i zero = refl
 lines-count s i (suc n) = ap suc (lines-count s (suc i) n)

@@ -7,3 +7,6 @@ pub mod LawPut
 pub mod LawRecord
 pub mod LawWritten
 pub mod LawBack
+pub mod LawBinary
+pub mod LawMade
+pub mod LawRound

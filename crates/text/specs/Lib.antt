@@ -4,4 +4,5 @@ pub mod Convert
 pub mod Read
 pub mod Written
 pub mod Declare
+pub mod Round
 pub mod Inner

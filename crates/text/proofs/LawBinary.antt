@@ -176,7 +176,7 @@ module _ (s line rest : List ℕ) (at : ℕ) (stands : drop at s ≡ lineBytes l
 
 -- ---- the sheet
 
-lines-size : (lines : List (List ℕ)) → length (linesBytes lines) ≡ lineSize * length lines
+pub lines-size : (lines : List (List ℕ)) → length (linesBytes lines) ≡ lineSize * length lines
 unfolding linesBytes
 lines-size [] = refl
 lines-size (line ∷ lines) =
@@ -216,23 +216,23 @@ headerSaid sheet =
       shownUnit = numberAt (sheet .header) 2;
     }
 
-module _ (sheet : TypedSheet) where
-  header-size : length (wordsOf headerSizes (headerWords (sheet .header) (length (sheet .lines)))) ≡ sheetHeaderSize
-  unfolding wordsOf headerWords word
-  header-size = refl
+pub header-size : (header : List ℕ) (lines : ℕ) → length (wordsOf headerSizes (headerWords header lines)) ≡ sheetHeaderSize
+unfolding wordsOf headerWords word
+header-size header lines = refl
 
+module _ (sheet : TypedSheet) where
   pub binary-size : length (binarySheet sheet) ≡ sheetSize (length (sheet .lines))
   unfolding binarySheet
   binary-size =
       length-append (wordsOf headerSizes (headerWords (sheet .header) (length (sheet .lines)))) (linesBytes (sheet .lines))
-      ∙ rw (header-size, lines-size)
+      ∙ rw (header-size (sheet .header) (length (sheet .lines)), lines-size)
 
   pub binary-line : (i : ℕ) → i < length (sheet .lines)
       → drop (sheetSize i) (binarySheet sheet) ≡ lineBytes (getD (sheet .lines) i []) ++ linesBytes (drop (suc i) (sheet .lines))
   unfolding binarySheet
   binary-line i h =
       let front = wordsOf headerSizes (headerWords (sheet .header) (length (sheet .lines))) in
-      let skipped = drop-at front (linesBytes (sheet .lines)) sheetHeaderSize header-size in
+      let skipped = drop-at front (linesBytes (sheet .lines)) sheetHeaderSize (header-size (sheet .header) (length (sheet .lines))) in
       rw (← drop-drop (lineSize * i) sheetHeaderSize (front ++ linesBytes (sheet .lines)), skipped) (lines-there (sheet .lines) i h)
 
   module _ (fits : NumbersFit sheet) where

@@ -1,26 +1,29 @@
 -- The records of a text read one after the other, each laid as a line behind those before it; and the header laid last, in front of them.
-use Prim.Native.Nat.{ℕ, _+_, _*_, _≤_, _<_}
+use Prim.Native.Nat.{ℕ, zero, suc, _+_, _*_, _≤_, _<_}
 use mathlib.Core.Path.{_≡_, refl, sym, ap, _∙_}
-use mathlib.Core.Bool.{Bool, true, false, _&&_, _||_, cond}
+use mathlib.Core.Bool.{Bool, true, false, not, _&&_, _||_}
 use mathlib.Core.List.{List, [], _∷_, _++_, append-assoc, append-nil}
 use mathlib.Core.Option.{Option, none, some}
-use native.Mathlib.Nat.{mul-add}
+use native.Mathlib.Nat.{zero-add}
 use native.Mathlib.Omega.{arith}
 use lib.Dec.{leb, eqb}
 use lib.ListN.{length, drop, getD, length-append, length-drop, drop-of-length-le}
 use borrow.Author.Tests.{le-leb, lt-leb, eqb-true, eqb-false, ne-eqb, leb-true}
+use Rattle.search.specs.Test.{every}
 use Rattle.search.proofs.LawTest.{either-way, clash}
 use Rattle.headers.specs.House.{mostBytes}
 use Rattle.headers.specs.Sheet.{sheetHeaderSize, lineSize, mostLines}
 use Rattle.numerals.specs.Laid.{laid}
+use Rattle.numerals.specs.Typed.{isNumeral, numberIn}
 use Rattle.numerals.proofs.LawLaid.{laid-more, laid-none, laid-before, length-laid}
-use Rattle.records.specs.Records.{pieces, recordIn, recordsOf}
+use Rattle.records.specs.Records.{pieces, recordIn, recordsOf, isQuoted, contentOf}
 use Rattle.records.specs.Follow.{following}
 use Rattle.records.proofs.LawField.{some-records, no-records}
-use Rattle.text.specs.Typed.{headerFields, lineFields, numbersIn, before, linesIn, fewLines, noneZero, sheetTyped, typedSheet}
+use Rattle.text.specs.Typed.{headerFields, lineFields, fieldNumber, numbersIn, before, linesIn, fewLines, noneZero, TypedSheet, sheetTyped, sheetIn, typedSheet}
 use Rattle.text.specs.Binary.{lineBytes, linesBytes, sheetSize, headerSizes, headerWords, wordsOf, binarySheet}
 use Rattle.text.specs.Inner.{allBefore, LinesLaid, SheetLaid}
 use Rattle.text.proofs.LawBinary.{lines-size, header-size}
+use Rattle.text.proofs.LawMade.{numbers-size}
 
 -- ---- these lines before others
 
@@ -121,6 +124,26 @@ module _ (text : List ℕ) (at : ℕ) (sheet : List ℕ) where
             whole = so-far .whole ∙ rw (opened, is, next-record) (before-one (so-far .done) numbers (left after));
           }
 
+-- ---- the header's three numbers
+
+-- a number that is 0 is not at least 1
+least : (n : ℕ) → leb 1 n ≡ not (eqb n 0)
+least zero = refl
+least (suc n) = rw (le-leb 1 (suc n) (omega arith), ne-eqb (suc n) 0 (λ e. omega (arith, e))) refl
+
+none-is-zero : (h : List ℕ) → length h ≡ 3 → noneZero h ≡ not ((eqb (getD h 0 0) 0 || eqb (getD h 1 0) 0) || eqb (getD h 2 0) 0)
+none-is-zero [] e = absurd (omega (arith, e))
+none-is-zero (a ∷ []) e = absurd (omega (arith, e))
+none-is-zero (a ∷ b ∷ []) e = absurd (omega (arith, e))
+none-is-zero (a ∷ b ∷ c ∷ []) e = rw (least a, least b, least c) (all-three (eqb a 0) (eqb b 0) (eqb c 0))
+  where
+    all-three : (x y z : Bool) → (not x && (not y && (not z && true))) ≡ not ((x || y) || z)
+    all-three true y z = refl
+    all-three false true z = refl
+    all-three false false true = refl
+    all-three false false false = refl
+none-is-zero (a ∷ b ∷ c ∷ d ∷ h) e = absurd (omega (arith, e))
+
 -- ---- the sheet
 
 -- a text that is too long, or has no header
@@ -159,3 +182,38 @@ module _ (text : List ℕ) where
     pub typed-by : typedSheet text ≡ sheetTyped (some header) (fewLines (linesIn rest))
     unfolding typedSheet
     typed-by = rw (le-leb (length text) mostBytes short, some-records text some-text, said) refl
+
+    -- whether one of the header's numbers is 0
+    abbrev pub has-zero : Bool
+    has-zero = (eqb (getD header 0 0) 0 || eqb (getD header 1 0) 0) || eqb (getD header 2 0) 0
+
+    none-zero : noneZero header ≡ not has-zero
+    none-zero = none-is-zero header (numbers-size headerFields first header said)
+
+    pub zero-header : has-zero ≡ true → typedSheet text ≡ none
+    zero-header z = typed-by ∙ go (fewLines (linesIn rest))
+      where
+        go : (o : Option (List (List ℕ))) → sheetTyped (some header) o ≡ none
+        go none = refl
+        go (some lines) = rw (none-zero, z) refl
+
+    module _ (at : ℕ) (next : rest ≡ recordsOf (drop at text)) where
+      pub bad-lines : fewLines (linesIn (recordsOf (drop at text))) ≡ none → typedSheet text ≡ none
+      bad-lines e = typed-by ∙ rw (next, e) refl
+
+      -- the header is laid in front of the lines
+      pub header-laid : has-zero ≡ false → (sheet sheet' sheet'' : List ℕ) (n : ℕ) → LinesLaid (recordsOf (drop at text)) sheet n sheet'
+          → sheet'' ≡ laid 0 (wordsOf headerSizes (headerWords header n)) sheet' → SheetLaid text sheet n sheet''
+      unfolding binarySheet
+      header-laid z sheet sheet' sheet'' n lines put =
+          record {
+            typed = record { header = header; lines = lines .lines };
+            is = typed-by ∙ rw (next, lines .typed, none-zero, z) refl;
+            count = lines .count;
+            few = lines .few;
+            holds =
+                put
+                ∙ rw (lines .holds, ← lines .count)
+                (rw (zero-add, header-size header (length (lines .lines))) at
+                (laid-before 0 (wordsOf headerSizes (headerWords header (length (lines .lines)))) (linesBytes (lines .lines)) sheet));
+          }

@@ -91,7 +91,7 @@ module _ (text : List ℕ) (at : ℕ) (numbers : List ℕ) (from until : ℕ) wh
       pub fields-step : FieldsSoFar text₂ (next + r + q) (j + 1)
       fields-step =
           let size : length (still j) ≡ r + (q + length (still (j + 1))) =
-              ap length opened ∙ rw (length-append, length-append, field .counts, mark .counts) refl in
+          ap length opened ∙ rw (length-append, length-append, field .counts, mark .counts) refl in
           record {
             within = omega (arith, more);
             near = omega (arith, so-far .near, field .few, mark .few);

@@ -10,3 +10,6 @@ pub mod LawBack
 pub mod LawBinary
 pub mod LawMade
 pub mod LawRound
+pub mod LawLines
+pub mod LawTexts
+pub mod LawLinesPut

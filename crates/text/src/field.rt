@@ -72,7 +72,7 @@ fn field_at(text: &[u8], at: usize, takes: u64, last: bool) -> FieldRead
 }
 
 // The numbers of the record that begins at `at`: a field for each that is asked for, and no other.
-pub(crate) fn record(text: &[u8], at: usize, takes: &[u64], numbers: &mut [u64]) -> RecordRead
+pub(crate) fn read_record(text: &[u8], at: usize, takes: &[u64], numbers: &mut [u64]) -> RecordRead
     requires { ⌜ Recordable (now takes) (now numbers) ⌝ }
     ensures { λ r. ⌜ RecordFound (now (text .entry)) at (now (takes .entry)) r (now (numbers .exit)) ⌝ }
 {

@@ -7,7 +7,7 @@ use super::convert::finished;
 use super::convert::refused;
 use super::field::A_READING;
 use super::field::RecordRead;
-use super::field::record;
+use super::field::read_record;
 use super::words::lay_header;
 use super::words::lay_line;
 use answers::answer::FileFault;
@@ -57,7 +57,7 @@ fn lay_lines(text: &[u8], at: usize, sheet: &mut [u8]) -> LinesRead
         if lines == MOST_LINES {
             return LinesRead::Broken;
         }
-        let RecordRead::Next(after) = record(text, next, &takes, &mut numbers) else {
+        let RecordRead::Next(after) = read_record(text, next, &takes, &mut numbers) else {
             return LinesRead::Broken;
         };
         lay_line(sheet, lines, &numbers);
@@ -76,7 +76,7 @@ fn lay_sheet(text: &[u8], sheet: &mut [u8]) -> LinesRead
     }
     let takes = [3u64, 255, 3];
     let mut header = [0u64; 3];
-    let RecordRead::Next(at) = record(text, 0, &takes, &mut header) else {
+    let RecordRead::Next(at) = read_record(text, 0, &takes, &mut header) else {
         return LinesRead::Broken;
     };
     if (header[0] == 0) | (header[1] == 0) | (header[2] == 0) {

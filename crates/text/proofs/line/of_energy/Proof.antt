@@ -15,14 +15,20 @@ returns-2 c =
 
 returns-3 : tie.Need-returns-3
 returns-3 c =
-    rw (first-taken _ (kwhOf _) _ (c .before .before .before .before .before .before .before .before .before .parts-of .ensures) _ (c .before .before .before .before .before .before .before .a .given .1), first-taken _ (kwOf _) _ (c .before .before .before .before .before .parts-of2 .ensures) _ (c .before .before .before .b .given .1),
-    first-bad _ (hoursOf _) _ (c .before .parts-of3 .ensures) (c .match3 .keys2))
+    rw (
+      first-taken _ (kwhOf _) _ (c .before .before .before .before .before .before .before .before .before .parts-of .ensures) _ (c .before .before .before .before .before .before .before .a .given .1),
+      first-taken _ (kwOf _) _ (c .before .before .before .before .before .parts-of2 .ensures) _ (c .before .before .before .b .given .1),
+      first-bad _ (hoursOf _) _ (c .before .parts-of3 .ensures) (c .match3 .keys2),
+    )
 
 returns-4 : tie.Need-returns-4
 unfolding allTaken
 returns-4 c =
-    rw (first-taken _ (kwhOf _) _ (c .before .before .before .before .before .before .before .before .before .before .before .parts-of .ensures) _ (c .before .before .before .before .before .before .before .before .before .a .given .1), first-taken _ (kwOf _) _ (c .before .before .before .before .before .before .before .parts-of2 .ensures) _ (c .before .before .before .before .before .b .given .1),
-    first-taken _ (hoursOf _) _ (c .before .before .before .parts-of3 .ensures) _ (c .before .c .given .1))
+    rw (
+      first-taken _ (kwhOf _) _ (c .before .before .before .before .before .before .before .before .before .before .before .parts-of .ensures) _ (c .before .before .before .before .before .before .before .before .before .a .given .1),
+      first-taken _ (kwOf _) _ (c .before .before .before .before .before .before .before .parts-of2 .ensures) _ (c .before .before .before .before .before .b .given .1),
+      first-taken _ (hoursOf _) _ (c .before .before .before .parts-of3 .ensures) _ (c .before .c .given .1),
+    )
 
 pub of-energy-spec : {M : Type 1} → statement M
 of-energy-spec = tie.close

@@ -5,8 +5,8 @@ use native.Mathlib.Omega.{arith}
 use lib.ListN.{length}
 use borrow.Author.Needs.{needs}
 use Rattle.text.proofs.LawFields.{SoFar, record-start, record-broken, record-step}
-use Rattle.text.proofs.field.record.Statement.{statement}
-use Rattle.text.proofs.field.record.Tie as tie
+use Rattle.text.proofs.field.read_record.Statement.{statement}
+use Rattle.text.proofs.field.read_record.Tie as tie
 
 abbrev Inv-loop : tie.InvT-loop
 Inv-loop text at takes numbers₀ next₀ j₀ numbers next j = SoFar text at takes numbers next j
@@ -44,6 +44,6 @@ slice-write-numbers c = omega (arith, c .before .before .before .before .before 
 loop-less : tie.Need-loop-less Inv-loop μ-loop
 loop-less c = omega (arith, c .before .before .before .before .before .loop-test .taken)
 
-pub record-spec : {M : Type 1} → statement M
-record-spec = tie.close
+pub read-record-spec : {M : Type 1} → statement M
+read-record-spec = tie.close
     (tie.spec Inv-loop μ-loop loop-holds (λ c. search needs) (λ c. search needs) (λ c. search needs) (λ c κs. search needs) (λ c. search needs) (λ c. search needs) same-length returns (λ c. search needs) slice-write-numbers (λ c. search needs) loop-less loop-again same-length-2 returns-2)

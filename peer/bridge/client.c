@@ -85,26 +85,6 @@ static void make_room(struct server *server, size_t length)
     server->room = length;
 }
 
-static void send_all(const struct server *server, size_t length)
-{
-    for (size_t done = 0; done < length;) {
-        ssize_t count = send(server->socket, server->bytes + done, length - done, MSG_NOSIGNAL);
-        if (count <= 0)
-            give_up("the server has ended");
-        done += (size_t)count;
-    }
-}
-
-static void receive_all(const struct server *server, size_t length)
-{
-    for (size_t done = 0; done < length;) {
-        ssize_t count = recv(server->socket, server->bytes + done, length - done, 0);
-        if (count <= 0)
-            give_up("the server has ended");
-        done += (size_t)count;
-    }
-}
-
 static void send_call(struct server *server, struct call call, const struct part *parts)
 {
     size_t length = sizeof call;
@@ -120,7 +100,8 @@ static void send_call(struct server *server, struct call call, const struct part
         memcpy(to, parts[i].bytes, parts[i].length);
         to += parts[i].length;
     }
-    send_all(server, length);
+    if (send(server->socket, server->bytes, length, MSG_NOSIGNAL) != (ssize_t)length)
+        give_up("the server has ended");
 }
 
 /* An answer is never longer than its call, so the buffer has room. */
@@ -130,7 +111,8 @@ static uint64_t receive_answer(const struct server *server, struct call call, co
     size_t length = sizeof answer;
     for (size_t i = call.files; i < call.parts; i++)
         length += parts[i].length;
-    receive_all(server, length);
+    if (recv(server->socket, server->bytes, length, MSG_WAITALL) != (ssize_t)length)
+        give_up("the server has ended");
     memcpy(&answer, server->bytes, sizeof answer);
     if (answer.harm)
         give_up("the library changed memory that was not lent for writing");

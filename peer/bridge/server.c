@@ -1,110 +1,98 @@
 /*
  * The far side of the bridge: an x86-64 program with the proved library in it. Its standard input is a socket, on which calls come and
- * answers go, until the near side (client.c) is closed.
+ * answers go, until the near side (client.c) closes it.
  */
 #include "call.h"
 #include "checkraven.h"
 
 /* The toolchain has a C library for x86-64, and no headers for it. */
-long read(int file, void *bytes, size_t length);
-long write(int file, const void *bytes, size_t length);
+#define MSG_WAITALL 0x100
+long recv(int socket, void *bytes, size_t length, int flags);
+long send(int socket, const void *bytes, size_t length, int flags);
 void *realloc(void *bytes, size_t length);
 void *memcpy(void *to, const void *from, size_t length);
 void *memset(void *to, int value, size_t length);
 int memcmp(const void *one, const void *other, size_t length);
 _Noreturn void exit(int status);
 
-/* The caller's own marks stand around its copy, so the parts have marks here too: before, between and behind them. */
+/* The caller's own marks stand around its copy. So the parts have marks here too: before, between and behind them. */
 #define MARK 0xA7
 #define MARGIN 64
 
-struct buffer {
-    uint8_t *bytes;
-    size_t room;
-};
-
-static struct buffer carried; /* a call as it came, then what goes back */
-static struct buffer lent;    /* the parts among marks */
 static struct call call;
-static size_t start[MOST_PARTS]; /* of each part in `lent` */
+static size_t carried_length; /* of all parts */
+static uint8_t *carried;      /* the parts as they came; later what goes back */
+static size_t lent_length;
+static uint8_t *lent; /* the parts among marks */
+static size_t start[MOST_PARTS];
 
-static void make_room(struct buffer *buffer, size_t length)
+static void make_room(uint8_t **bytes, size_t *room, size_t length)
 {
-    if (length <= buffer->room)
+    if (length <= *room)
         return;
-    buffer->bytes = realloc(buffer->bytes, length);
-    if (buffer->bytes == NULL)
+    *bytes = realloc(*bytes, length);
+    *room = length;
+    if (*bytes == NULL)
         exit(1);
-    buffer->room = length;
-}
-
-/* Reads until so many bytes of a call are there, and takes what else has come: mostly that is all of it. */
-static size_t read_until(size_t have, size_t wanted)
-{
-    make_room(&carried, wanted);
-    while (have < wanted) {
-        long count = read(0, carried.bytes + have, carried.room - have);
-        if (count <= 0)
-            exit(count < 0 || have > 0);
-        have += (size_t)count;
-    }
-    return have;
 }
 
 static void read_call(void)
 {
-    size_t have = read_until(0, sizeof call), wanted = sizeof call;
-    memcpy(&call, carried.bytes, sizeof call);
+    static size_t room;
+    if (recv(0, &call, sizeof call, MSG_WAITALL) != (long)sizeof call)
+        exit(0);
+    carried_length = 0;
     for (size_t part = 0; part < call.parts; part++)
-        wanted += call.length[part];
-    read_until(have, wanted);
+        carried_length += call.length[part];
+    make_room(&carried, &room, sizeof(struct answer) + carried_length);
+    if (carried_length > 0 && recv(0, carried, carried_length, MSG_WAITALL) != (long)carried_length)
+        exit(1);
 }
 
-/* Lays the parts out among marks; the answer is where the last marks end. */
-static size_t lay_out(void)
+static void lay_out(void)
 {
+    static size_t room;
     size_t end = 0;
     for (size_t part = 0; part < call.parts; part++) {
         start[part] = (end + MARGIN + ADDRESS_STEP) / ADDRESS_STEP * ADDRESS_STEP + call.address[part];
         end = start[part] + call.length[part];
     }
-    make_room(&lent, end + MARGIN);
-    memset(lent.bytes, MARK, end + MARGIN);
-    const uint8_t *from = carried.bytes + sizeof call;
+    lent_length = end + MARGIN;
+    make_room(&lent, &room, lent_length);
+    memset(lent, MARK, lent_length);
+    const uint8_t *from = carried;
     for (size_t part = 0; part < call.parts; part++) {
-        memcpy(lent.bytes + start[part], from, call.length[part]);
+        memcpy(lent + start[part], from, call.length[part]);
         from += call.length[part];
     }
-    return end + MARGIN;
 }
 
 static int marks_hold(size_t from, size_t to)
 {
     int hold = 1;
     for (size_t at = from; at < to; at++)
-        hold &= lent.bytes[at] == MARK;
+        hold &= lent[at] == MARK;
     return hold;
 }
 
-/* Whether a mark or a file has changed. */
-static int harm_was_done(size_t all)
+/* Whether all marks and all files are as they were. */
+static int nothing_else_changed(void)
 {
-    const uint8_t *before = carried.bytes + sizeof call;
+    const uint8_t *before = carried;
     size_t end = 0;
+    int same = 1;
     for (size_t part = 0; part < call.parts; part++) {
-        if (!marks_hold(end, start[part]))
-            return 1;
-        if (part < call.files && memcmp(lent.bytes + start[part], before, call.length[part]) != 0)
-            return 1;
+        same &= marks_hold(end, start[part]);
+        same &= part >= call.files || memcmp(lent + start[part], before, call.length[part]) == 0;
         before += call.length[part];
         end = start[part] + call.length[part];
     }
-    return !marks_hold(end, all);
+    return same && marks_hold(end, lent_length);
 }
 
 static uint8_t *bytes(size_t part)
 {
-    return lent.bytes + start[part];
+    return lent + start[part];
 }
 
 static uint64_t *cells(size_t part)
@@ -139,31 +127,26 @@ static uint64_t make_call(void)
     }
 }
 
-static void write_answer(struct answer answer)
+static void send_answer(struct answer answer)
 {
     size_t length = sizeof answer;
-    memcpy(carried.bytes, &answer, sizeof answer);
+    memcpy(carried, &answer, sizeof answer);
     for (size_t part = call.files; part < call.parts; part++) {
-        memcpy(carried.bytes + length, bytes(part), call.length[part]);
+        memcpy(carried + length, bytes(part), call.length[part]);
         length += call.length[part];
     }
-    for (size_t done = 0; done < length;) {
-        long count = write(0, carried.bytes + done, length - done);
-        if (count <= 0)
-            exit(1);
-        done += (size_t)count;
-    }
+    if (send(0, carried, length, 0) != (long)length)
+        exit(1);
 }
 
 int main(void)
 {
-    make_room(&carried, 65536);
     for (;;) {
         struct answer answer;
         read_call();
-        size_t all = lay_out();
+        lay_out();
         answer.answer = make_call();
-        answer.harm = (uint64_t)harm_was_done(all);
-        write_answer(answer);
+        answer.harm = !nothing_else_changed();
+        send_answer(answer);
     }
 }

@@ -1,6 +1,7 @@
 -- The records of a sheet's lines laid one after the other: what is laid stands before those of the lines that are left.
 use Prim.Native.Nat.{ℕ, suc, _+_, _-_, _*_, _≤_, _<_}
 use mathlib.Core.Path.{_≡_, refl, sym, ap, _∙_}
+use mathlib.Core.Bool.{true}
 use mathlib.Core.List.{List, [], _∷_, _++_, append-assoc, append-nil}
 use mathlib.Core.Option.{none, some}
 use native.Mathlib.Numerals.{add-one}
@@ -11,7 +12,13 @@ use Rattle.answers.specs.declared.answer.LineFault.the-variants.{BadReading}
 use Rattle.answers.specs.declared.answer.Outcome.the-variants.{RefusedLine}
 use Rattle.numerals.specs.Laid.{laid}
 use Rattle.numerals.proofs.LawLaid.{laid-more, laid-none, length-laid}
+use Rattle.search.proofs.LawTest.{clash}
+use Rattle.desk.specs.Sheet.{sheetOk}
 use Rattle.desk.specs.Line.{lineOf}
+use Rattle.desk.specs.Found.{sheetLine}
+use Rattle.desk.specs.declared.line.Line.{Line}
+use Rattle.desk.specs.declared.line.SheetLine.the-variants.{There, NotThere}
+use Rattle.desk.proofs.LawFound.{right-line}
 use Rattle.text.specs.Convert.{Made, Gives, Refuses}
 use Rattle.text.specs.Written.{mostRecord, recordText, usedOf, allTaken, lineTexts, linesFrom, inFront, linesText}
 use Rattle.text.specs.Inner.{Puts, LinePut, LinesPut}
@@ -93,3 +100,13 @@ module _ (s : List ℕ) (at : ℕ) (text : List ℕ) where
             holds = put .puts .holds ∙ rw (so-far .ends, so-far .holds) (laid-more at (so-far .done) bytes text);
             whole = so-far .whole ∙ rw (opened, put .taken) (two-fronts (so-far .done) bytes (left (i + 1)));
           }
+
+-- ---- the line that is read is the one that is meant
+
+module _ (s : List ℕ) (i : ℕ) (ok : sheetOk s ≡ true) (inside : i < lineCount s) where
+  -- a right sheet has every line that it counts
+  pub never : {A : Type 0} → sheetLine s i ≡ NotThere → A
+  never gone = let z : There (lineOf s i) ≡ NotThere = sym (right-line s i inside ok) ∙ gone in clash (cc)
+
+  pub line-is : (line : Line) → sheetLine s i ≡ There line → line ≡ lineOf s i
+  line-is line there = let z : There line ≡ There (lineOf s i) = sym there ∙ right-line s i inside ok in cc

@@ -13,3 +13,4 @@ pub mod LawRound
 pub mod LawLines
 pub mod LawTexts
 pub mod LawLinesPut
+pub mod LawSheetText

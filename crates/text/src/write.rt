@@ -141,15 +141,10 @@ fn lay_lines(text: &mut [u8], at: usize, sheet: &[u8]) -> LinesText
     LinesText::Ends(next)
 }
 
-// The text of a sheet of any content and size, at the start of lent bytes of any size: how many bytes it has, and the bytes past it keep
-// their values. Refused is a sheet that the desk refuses with 2; then the first line with a used reading that is bad or over its limit (9);
-// then a text that has no room (3). Every lent byte is then zero. `MOST_SHEET_TEXT` bytes always have room.
-pub fn text_from_sheet(sheet: &[u8], text: &mut [u8]) -> Converted
+fn text_from_right(sheet: &[u8], text: &mut [u8]) -> Converted
+    requires { ⌜ sheetOk (now sheet) ≡ true ⌝ }
     ensures { λ r. ⌜ Converts (textOfSheet (now (sheet .entry))) (now (text .entry)) r (now (text .exit)) ⌝ }
 {
-    if !sheet_ok(sheet) {
-        return refused(text, Outcome::RefusedFile(FileFault::SheetMalformed));
-    }
     let header = [
         byte_at(sheet, 6) as u64,
         byte_at(sheet, 7) as u64,
@@ -162,5 +157,18 @@ pub fn text_from_sheet(sheet: &[u8], text: &mut [u8]) -> Converted
             text,
             Outcome::RefusedLine(LineFault::BadReading, line),
         ),
+    }
+}
+
+// The text of a sheet of any content and size, at the start of lent bytes of any size: how many bytes it has, and the bytes past it keep
+// their values. Refused is a sheet that the desk refuses with 2; then the first line with a used reading that is bad or over its limit (9);
+// then a text that has no room (3). Every lent byte is then zero. `MOST_SHEET_TEXT` bytes always have room.
+pub fn text_from_sheet(sheet: &[u8], text: &mut [u8]) -> Converted
+    ensures { λ r. ⌜ Converts (textOfSheet (now (sheet .entry))) (now (text .entry)) r (now (text .exit)) ⌝ }
+{
+    if sheet_ok(sheet) {
+        text_from_right(sheet, text)
+    } else {
+        refused(text, Outcome::RefusedFile(FileFault::SheetMalformed))
     }
 }

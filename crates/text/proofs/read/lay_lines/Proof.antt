@@ -53,9 +53,10 @@ loop-less c = omega (arith, c .before .before .before .before .before .before .b
 
 loop-again : tie.Need-loop-again Inv-loop μ-loop
 loop-again c =
-    let found = rw (c .before .before .before .before .before .before .after .given .1) at (c .before .before .before .before .before .before .before .before .before .read-record .ensures) in
-    (numbers-size lineFields _ _ (found .0),
-    lines-step _ _ _ _ _ _ (c .before .before .before .before .before .before .before .before .before .before .before .before .before .before .loop .inv .1) (c .before .before .before .before .before .before .before .before .before .before .before .before .before .loop-test .taken) (c .before .before .before .before .before .before .before .before .before .before .before .before .if1 .left) _ _ _ (found .0) (found .1) (c .before .before .lay-line .ensures))
+    let found = rw (c .before .before .before .before .before .before .after .given .1) at (c .before .before .before .before .before .before .before .before .before .read-record .ensures) in (
+      numbers-size lineFields _ _ (found .0),
+      lines-step _ _ _ _ _ _ (c .before .before .before .before .before .before .before .before .before .before .before .before .before .before .loop .inv .1) (c .before .before .before .before .before .before .before .before .before .before .before .before .before .loop-test .taken) (c .before .before .before .before .before .before .before .before .before .before .before .before .if1 .left) _ _ _ (found .0) (found .1) (c .before .before .lay-line .ensures),
+    )
 
 same-length-3 : tie.Need-same-length-3 Inv-loop μ-loop
 same-length-3 c = lines-length _ _ _ _ _ _ (c .before .loop .inv .1)

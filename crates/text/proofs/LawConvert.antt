@@ -6,8 +6,10 @@ use mathlib.Core.List.{List, _++_}
 use native.Mathlib.Omega.{arith}
 use lib.Dec.{leb}
 use lib.ListN.{length, drop, replicate}
-use borrow.Author.Tests.{leb-true, leb-false}
-use Rattle.search.proofs.LawTest.{either-way}
+use lib.Seq.{take-at}
+use borrow.Author.Tests.{le-leb, leb-true, leb-false}
+use Rattle.search.proofs.LawTest.{either-way, clash}
+use Rattle.little.specs.Part.{partOf}
 use Rattle.answers.specs.declared.answer.FileFault.the-variants.{ResultTooShort}
 use Rattle.answers.specs.declared.answer.Outcome.{Outcome}
 use Rattle.answers.specs.declared.answer.Outcome.the-variants.{RefusedFile}
@@ -45,6 +47,34 @@ module _ (made : Made) (bytes bytes' : List ℕ) (r : Converted) (left : List �
       → Converts made bytes r left
   all-cleared refusal is size f =
       rw is (record { answer = f .answer; holds = rw (f .answer) (f .zero ∙ rw size refl) })
+
+-- ---- what a conversion that ended so says
+
+module _ (made : Made) (bytes : List ℕ) (r : Converted) (left : List ℕ) (p : Converts made bytes r left) where
+  -- the first bytes are those that it gives
+  pub gave : (n : ℕ) → r ≡ Bytes n → (given : List ℕ) × ((made ≡ Gives given) × (partOf left 0 n ≡ given))
+  gave n is = go made refl (p .answer) (p .holds)
+    where
+      go : (m : Made) → made ≡ m → r ≡ byRoom m (length bytes) → left ≡ bytesAfter r m bytes
+          → (given : List ℕ) × ((made ≡ Gives given) × (partOf left 0 n ≡ given))
+      go (Refuses o) same a h = let z : Bytes n ≡ Refused o = sym is ∙ a in clash (cc)
+      go (Gives given) same a h =
+          either-way (leb (length given) (length bytes))
+          (λ l.
+          let count : length given ≡ n = (let z : Bytes (length given) ≡ Bytes n = sym (a ∙ rw l refl) ∙ is in cc) in
+          (given, (same, rw (h, is) (take-at given (drop (length given) bytes) n count))))
+          (λ l. let z : Bytes n ≡ Refused (RefusedFile ResultTooShort) = sym is ∙ a ∙ rw l refl in clash (cc))
+
+  -- where there was room for all that it could give, a refusal is its own
+  pub refused-is : ((given : List ℕ) → made ≡ Gives given → length given ≤ length bytes) → (refusal : Outcome) → r ≡ Refused refusal
+      → made ≡ Refuses refusal
+  refused-is roomy refusal is = go made refl (p .answer)
+    where
+      go : (m : Made) → made ≡ m → r ≡ byRoom m (length bytes) → made ≡ Refuses refusal
+      go (Refuses o) same a = let z : Refused o ≡ Refused refusal = sym a ∙ is in same ∙ cc
+      go (Gives given) same a =
+          let z : Bytes (length given) ≡ Refused refusal = sym (a ∙ rw (le-leb (length given) (length bytes) (roomy given same)) refl) ∙ is in
+          clash (cc)
 
 -- ---- two outcomes that the promise allows are equal
 

@@ -13,9 +13,13 @@ use Rattle.desk.specs.Declare.{Declared}
 use Rattle.text.specs.Convert.{Made, Gives, Refuses}
 use Rattle.text.specs.Read.{sheetOfText}
 
--- no sheet: the book is looked at first; every cell is zero
+-- what is wrong with the text, unless the book is malformed
+abbrev pub bookFirst : (book : List ℕ) (refusal : Outcome) → Outcome
+bookFirst book refusal = cond (bookOk book) refusal (RefusedFile BookMalformed)
+
+-- no sheet: every cell is zero
 pub record NoSheet (book : List ℕ) (refusal : Outcome) (exact shown : List ℕ) (r : Outcome) (exact' shown' : List ℕ) : Type 0 where
-  pub answer : r ≡ cond (bookOk book) refusal (RefusedFile BookMalformed)
+  pub answer : r ≡ bookFirst book refusal
   pub exactZero : exact' ≡ replicate (length exact) 0
   pub shownZero : shown' ≡ replicate (length shown) 0
 

@@ -14,3 +14,4 @@ pub mod LawLines
 pub mod LawTexts
 pub mod LawLinesPut
 pub mod LawSheetText
+pub mod LawAnswer

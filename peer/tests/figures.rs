@@ -1,6 +1,6 @@
 //! The paper's own figures, on both desks.
 
-use peer::compare::{run_proved, BundleCase, Case, Tally};
+use peer::compare::{run_proved, BundleCase, Case, Tally, TextCase};
 use peer::make::{Book, Line, Row, Sheet, Technique};
 use peer::print::whole_output;
 use std::fs;
@@ -314,6 +314,8 @@ fn the_folders_of_the_figures() {
         assert!(is_up_to_date(&top, &folder), "stale files in {}", folder.display());
         if folder.join("bundle.bin").exists() {
             tally.agree(&BundleCase::read(&folder).expect("a folder has both files"));
+        } else if folder.join("sheet.csv").exists() {
+            tally.agree(&TextCase::read(&folder).expect("a folder has both files"));
         } else {
             tally.agree(&Case::read(&folder).expect("a folder has both files"));
         }

@@ -9,4 +9,5 @@ fn main() {
     worked::lines();
     runs::runs();
     runs::bundle_runs();
+    runs::typed_runs();
 }

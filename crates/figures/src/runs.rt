@@ -1,5 +1,5 @@
-// The desk over the folders of data/: each has a book and a sheet or a bundle, and the listing that `make-files` made both from, or what
-// was changed.
+// The desk over the folders of data/: each has a book and a sheet, which may be typed, or a bundle, and the listing that `make-files` made
+// both from, or what was changed.
 use super::print::say;
 use headers::house::MOST_BYTES;
 use little::part::part;
@@ -8,6 +8,7 @@ use report::MOST_TEXT;
 use report::Written;
 use report::report;
 use report::report_bundle;
+use report::report_text;
 
 fn answer(book: &[u8], sheet: &[u8]) {
     let mut text = [0u8; MOST_TEXT];
@@ -19,6 +20,13 @@ fn answer(book: &[u8], sheet: &[u8]) {
 fn answer_bundle(book: &[u8], bundle: &[u8]) {
     let mut text = [0u8; MOST_BUNDLE_TEXT];
     if let Written::Bytes(bytes) = report_bundle(book, bundle, &mut text) {
+        say(part(&text, 0, bytes));
+    }
+}
+
+fn answer_typed(book: &[u8], typed: &[u8]) {
+    let mut text = [0u8; MOST_TEXT];
+    if let Written::Bytes(bytes) = report_text(book, typed, &mut text) {
         say(part(&text, 0, bytes));
     }
 }
@@ -57,6 +65,16 @@ fn run_bundle(book_path: &[u8], bundle_path: &[u8]) {
     answer_bundle(part(&book, 0, book_bytes), part(&bundle, 0, bundle_bytes));
 }
 
+// Likewise its typed sheet.
+fn run_typed(book_path: &[u8], typed_path: &[u8]) {
+    let mut book = [0u8; MOST_BYTES];
+    let mut typed = [0u8; MOST_BYTES];
+    let book_bytes = load(book_path, &mut book);
+    let typed_bytes = load(typed_path, &mut typed);
+    name(typed_path);
+    answer_typed(part(&book, 0, book_bytes), part(&typed, 0, typed_bytes));
+}
+
 pub(crate) fn runs() {
     run(b"document-000/book.bin", b"document-000/sheet.bin");
     run(b"document-002/book.bin", b"document-002/sheet.bin");
@@ -79,4 +97,10 @@ pub(crate) fn bundle_runs() {
         b"bundle-overlapping/book.bin",
         b"bundle-overlapping/bundle.bin",
     );
+}
+
+pub(crate) fn typed_runs() {
+    run_typed(b"typed-foundry/book.bin", b"typed-foundry/sheet.csv");
+    run_typed(b"typed-hours-over/book.bin", b"typed-hours-over/sheet.csv");
+    run_typed(b"typed-line-feeds/book.bin", b"typed-line-feeds/sheet.csv");
 }

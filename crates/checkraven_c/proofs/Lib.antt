@@ -1,3 +1,4 @@
 pub mod LawCode
 pub mod LawTextCode
 pub mod LawBundleCode
+pub mod LawConvertCode

@@ -14,3 +14,5 @@ pub mod LawLines
 pub mod LawTexts
 pub mod LawLinesPut
 pub mod LawSheetText
+pub mod LawOnce
+pub mod LawShutOut

@@ -1,5 +1,5 @@
--- Readers and writers near the rules: each differs from them at a small text that is computed here, or is refuted in general.
-use Prim.Native.Nat.{ℕ, zero, suc, _+_, _≤_, _<_}
+-- Readers, writers and desks near the rules: each differs from them at a small text that is computed here, or is refuted in general.
+use Prim.Native.Nat.{ℕ, zero, suc, _+_, _≤_, _<_, min}
 use mathlib.Core.Path.{_≡_, refl, sym, ap, _∙_}
 use mathlib.Core.Bool.{true, false, cond}
 use mathlib.Core.List.{List, [], _∷_, _++_, append-assoc, append-nil}
@@ -7,7 +7,7 @@ use mathlib.Core.Option.{Option, none, some}
 use native.Mathlib.Omega.{arith}
 use lib.Dec.{leb, eqb}
 use lib.ListN.{length, getD, replicate}
-use borrow.Author.Tests.{eq-eqb, le-ltb}
+use borrow.Author.Tests.{le-ltb, lt-leb}
 use Rattle.search.specs.Test.{every}
 use Rattle.search.specs.First.{first}
 use Rattle.search.proofs.LawTest.{either-way, clash}
@@ -19,21 +19,31 @@ use Rattle.numerals.specs.Word.{word}
 use Rattle.numerals.specs.declared.typed.Typed.{Typed}
 use Rattle.numerals.specs.declared.typed.Typed.the-variants.{Is, Malformed}
 use Rattle.records.specs.Records.{comma, quote, carriageReturn, lineFeed, pieces, ended, recordsOf, isQuoted, contentOf}
-use Rattle.answers.specs.declared.answer.FileFault.the-variants.{SheetMalformed, TextMalformed}
+use Rattle.answers.specs.declared.answer.FileFault.{FileFault}
+use Rattle.answers.specs.declared.answer.FileFault.the-variants.{BookMalformed, SheetMalformed, TextMalformed, ResultTooShort}
 use Rattle.answers.specs.declared.answer.LineFault.the-variants.{BadReading}
 use Rattle.answers.specs.declared.answer.Outcome.{Outcome}
-use Rattle.answers.specs.declared.answer.Outcome.the-variants.{RefusedFile, RefusedLine}
+use Rattle.answers.specs.declared.answer.Outcome.the-variants.{Accepted, RefusedFile, RefusedLine}
+use Rattle.desk.specs.Book.{bookOk}
 use Rattle.desk.specs.Sheet.{sheetOk}
 use Rattle.desk.specs.Line.{lineOf}
+use Rattle.desk.specs.Lent.{lent}
+use Rattle.desk.specs.Cells.{tableSize}
+use Rattle.desk.specs.Account.{lineOutcome}
+use Rattle.desk.specs.Table.{byFiles, orLine, byLines, answerOf}
 use Rattle.desk.specs.declared.line.Line.{Line}
+use Rattle.desk.specs.declared.account.LineOutcome.{LineOutcome}
+use Rattle.desk.specs.declared.account.LineOutcome.the-variants.{Given, Refusal}
 use Rattle.text.specs.declared.convert.Converted.{Converted}
 use Rattle.text.specs.declared.convert.Converted.the-variants.{Refused}
-use Rattle.text.specs.Typed.{headerFields, lineFields, fieldNumber, followed, numbersIn, before, linesIn, TypedSheet, fewLines, sheetTyped, sheetIn, typedSheet}
+use Rattle.text.specs.Typed.{headerFields, lineFields, fieldNumber, followed, numbersIn, before, linesIn, TypedSheet, sheetTyped, sheetIn, typedSheet}
 use Rattle.text.specs.Binary.{techniqueOf, kindOf, usedReadings, readingBits, lineWords, wordsOf, linesBytes, headerWords, binarySheet}
 use Rattle.text.specs.Convert.{Made, Gives, Refuses, byRoom, Converts}
-use Rattle.text.specs.Read.{sheetOfText}
-use Rattle.text.specs.Written.{recordEnd, recordText, usedOf, allTaken, lineTexts, linesFrom, headerTexts, inFront, withLine, linesText, textOfSheet}
+use Rattle.text.specs.Read.{binaryOf, sheetOfText}
+use Rattle.text.specs.Written.{recordEnd, recordText, usedOf, allTaken, lineTexts, linesFrom, headerTexts, linesText, textOfSheet}
+use Rattle.text.specs.Declare.{bookFirst, DeclaredBy, DeclaredText}
 use Rattle.text.proofs.LawLines.{too-long}
+use Rattle.text.proofs.LawMade.{made-right}
 use Rattle.text.proofs.LawBack.{line-given, sheet-given}
 
 -- ---- small texts of one record: a medium, a pollutant and a unit
@@ -287,3 +297,86 @@ unfolding textOfSheet
 reading-second s j right h first-bad room =
     let number : 0 + j ≡ j = omega arith in
     rw (right, lines-refused s 0 0 (lineCount s) j h first-bad, number) refl
+
+-- ---- what the desk answers for a text
+
+-- lines refuse lines alone
+no-file : (n : ℕ) (l : ℕ → LineOutcome) (fault : FileFault) → byLines n l ≡ RefusedFile fault → ⊥
+unfolding byLines
+no-file zero l fault e = clash (cc)
+no-file (suc n) l fault e = go (byLines n l) (l n) (no-file n l fault) e
+  where
+    go : (so-far : Outcome) (line : LineOutcome) → (so-far ≡ RefusedFile fault → ⊥) → orLine so-far line n ≡ RefusedFile fault → ⊥
+    go Accepted (Given row) other h = clash (cc)
+    go Accepted (Refusal f) other h = clash (cc)
+    go (RefusedFile f) line other h = other h
+    go (RefusedLine f i) line other h = clash (cc)
+
+-- a text of which no sheet is made is malformed
+made-refused : (text : List ℕ) (refusal : Outcome) → sheetOfText text ≡ Refuses refusal → refusal ≡ RefusedFile TextMalformed
+unfolding sheetOfText
+made-refused text refusal e = go (typedSheet text) e
+  where
+    go : (typed : Option TypedSheet) → binaryOf typed ≡ Refuses refusal → refusal ≡ RefusedFile TextMalformed
+    go none h = cc
+    go (some sheet) h = clash (cc)
+
+module _ (book : List ℕ) where
+  -- a book that is not right, whatever the sheet
+  book-answer : (sheet : List ℕ) (room : ℕ) → bookOk book ≡ false → answerOf (lent book sheet) room ≡ RefusedFile BookMalformed
+  unfolding answerOf byFiles
+  book-answer sheet room wrong = rw wrong refl
+
+  -- a right sheet is never refused with 2
+  right-answer : (sheet : List ℕ) (room : ℕ) → sheetOk sheet ≡ true → answerOf (lent book sheet) room ≡ RefusedFile SheetMalformed → ⊥
+  unfolding answerOf byFiles
+  right-answer sheet room right e =
+      either-way (bookOk book)
+      (λ b.
+      either-way (leb (tableSize (lineCount sheet)) room)
+      (λ t. no-file (lineCount sheet) (lineOutcome (lent book sheet)) SheetMalformed (rw (b, right, t) at e))
+      (λ t. let z : RefusedFile ResultTooShort ≡ RefusedFile SheetMalformed = rw (b, right, t) at e in clash (cc)))
+      (λ b. let z : RefusedFile BookMalformed ≡ RefusedFile SheetMalformed = rw b at e in clash (cc))
+
+  short-answer : (sheet : List ℕ) (room : ℕ) → bookOk book ≡ true → sheetOk sheet ≡ true → room < tableSize (lineCount sheet)
+      → answerOf (lent book sheet) room ≡ RefusedFile ResultTooShort
+  unfolding answerOf byFiles
+  short-answer sheet room right good few = rw (right, good, lt-leb (tableSize (lineCount sheet)) room few) refl
+
+  module _ (text exact shown : List ℕ) (r : Outcome) (exact' shown' : List ℕ) (p : DeclaredText book text exact shown r exact' shown') where
+    -- one that looks at the text before the book: a wrong book is refused with 1 whatever the text and the room
+    pub book-first : bookOk book ≡ false → r ≡ RefusedFile BookMalformed
+    book-first wrong = go (sheetOfText text) p
+      where
+        go : (made : Made) → DeclaredBy book made exact shown r exact' shown' → r ≡ RefusedFile BookMalformed
+        go (Gives sheet) q = q .demand1 .answer ∙ book-answer sheet (min (length exact) (length shown)) wrong
+        go (Refuses refusal) q = q .answer ∙ rw wrong refl
+
+    -- one that looks at the room before the text: a malformed text is refused with 12 whatever room there is, none included
+    pub text-second : bookOk book ≡ true → typedSheet text ≡ none → r ≡ RefusedFile TextMalformed
+    unfolding sheetOfText
+    text-second right e =
+        let q : DeclaredBy book (Refuses (RefusedFile TextMalformed)) exact shown r exact' shown' = rw e at p in
+        q .answer ∙ rw right refl
+
+    -- one that looks at a line before the room
+    pub room-third : (sheet : List ℕ) → bookOk book ≡ true → sheetOfText text ≡ Gives sheet → min (length exact) (length shown) < tableSize (lineCount sheet)
+        → r ≡ RefusedFile ResultTooShort
+    room-third sheet right made few =
+        let q : DeclaredBy book (Gives sheet) exact shown r exact' shown' = rw made at p in
+        q .demand1 .answer ∙ short-answer sheet (min (length exact) (length shown)) right (made-right text sheet made) few
+
+    -- one that answers with 2, which is no matter of a text
+    pub never-two : r ≡ RefusedFile SheetMalformed → ⊥
+    never-two is = go (sheetOfText text) refl p
+      where
+        other-refusal : (refusal : Outcome) → sheetOfText text ≡ Refuses refusal → bookFirst book refusal ≡ RefusedFile SheetMalformed → ⊥
+        other-refusal refusal made e =
+            let twelve = made-refused text refusal made in
+            either-way (bookOk book)
+            (λ b. let z : RefusedFile TextMalformed ≡ RefusedFile SheetMalformed = rw (b, twelve) at e in clash (cc))
+            (λ b. let z : RefusedFile BookMalformed ≡ RefusedFile SheetMalformed = rw b at e in clash (cc))
+
+        go : (made : Made) → sheetOfText text ≡ made → DeclaredBy book made exact shown r exact' shown' → ⊥
+        go (Gives sheet) made q = right-answer sheet (min (length exact) (length shown)) (made-right text sheet made) (sym (q .demand1 .answer) ∙ is)
+        go (Refuses refusal) made q = other-refusal refusal made (sym (q .answer) ∙ is)

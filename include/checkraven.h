@@ -57,8 +57,8 @@ extern "C" {
 /* Bytes that are enough for the sheet of every text: 128 lines. */
 #define CHECKRAVEN_MOST_SHEET 8208
 
-/* Bytes that are enough for the text of every sheet. */
-#define CHECKRAVEN_MOST_SHEET_TEXT 40960
+/* Bytes that are enough for the text of every sheet: 26 for each field. */
+#define CHECKRAVEN_MOST_SHEET_TEXT 43342
 
 /*
  * Accounts for one sheet with one book.

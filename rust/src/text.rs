@@ -12,8 +12,8 @@ use std::str;
 /// Bytes that are enough for the binary sheet of every text.
 pub const MOST_SHEET: usize = 16 + 64 * MOST_LINES;
 
-/// Bytes that are enough for the text of every sheet.
-pub const MOST_SHEET_TEXT: usize = 40_960;
+/// Bytes that are enough for the text of every sheet: 26 for each field.
+pub const MOST_SHEET_TEXT: usize = 43_342;
 
 /// Answers below this count bytes.
 const BYTES: u64 = 65536;

@@ -1,11 +1,12 @@
-// The desk as a program: in the folder it is started in it reads `book.bin`, and `bundle.bin` where that is there, else `sheet.bin`, and
-// prints the report.
+// The desk as a program: in the folder it is started in it reads `book.bin`, and `bundle.bin` where that is there, else `sheet.bin`, else
+// `sheet.csv`, and prints the report.
 ghost use mathlib.Core.Path.{_≡_};
 ghost use Prim.Native.Nat.{_≤_};
 ghost use lib.ListN.{length, take};
 ghost use Rattle.desk.specs.Lent.{lent};
 ghost use Rattle.report.specs.Report.{mostText, reportOf};
 ghost use Rattle.report.specs.Bundle.{mostBundleText, bundleReportOf};
+ghost use Rattle.report.specs.Typed.{textReportOf};
 use headers::house::MOST_BYTES;
 use libc::ENOENT;
 use libc::STDERR_FILENO;
@@ -16,6 +17,7 @@ use report::MOST_TEXT;
 use report::Written;
 use report::report;
 use report::report_bundle;
+use report::report_text;
 
 // A file that could not be opened counts as empty.
 fn load_open(file: i32, room: &mut [u8]) -> usize {
@@ -51,6 +53,17 @@ fn whole_report(book: &[u8], sheet: &[u8], text: &mut [u8]) -> usize
     }
 }
 
+// Likewise for a sheet that was typed.
+fn whole_text_report(book: &[u8], typed: &[u8], text: &mut [u8]) -> usize
+    requires { ⌜ mostText ≤ length (now text) ⌝ }
+    ensures { λ r. ⌜ take r (now (text .exit)) ≡ textReportOf (now (book .entry)) (now (typed .entry)) ⌝ }
+{
+    match report_text(book, typed, text) {
+        Written::Bytes(bytes) => bytes,
+        Written::Short => 0,
+    }
+}
+
 // Likewise for a bundle.
 fn whole_bundle_report(book: &[u8], bundle: &[u8], text: &mut [u8]) -> usize
     requires { ⌜ mostBundleText ≤ length (now text) ⌝ }
@@ -74,12 +87,35 @@ fn print(text: &[u8]) {
 }
 
 // Here and below one byte more than the limit is read, so that a longer file is refused and not cut.
-fn print_sheet(book: &[u8]) {
+fn print_sheet(book: &[u8], file: i32) {
     let mut sheet = [0u8; MOST_BYTES + 1];
-    let sheet_bytes = load(b"sheet.bin", &mut sheet);
+    let sheet_bytes = load_open(file, &mut sheet);
     let mut text = [0u8; MOST_TEXT];
     let bytes = whole_report(book, part(&sheet, 0, sheet_bytes), &mut text);
     print(part(&text, 0, bytes));
+}
+
+fn print_typed(book: &[u8], file: i32) {
+    let mut typed = [0u8; MOST_BYTES + 1];
+    let typed_bytes = load_open(file, &mut typed);
+    let mut text = [0u8; MOST_TEXT];
+    let bytes = whole_text_report(book, part(&typed, 0, typed_bytes), &mut text);
+    print(part(&text, 0, bytes));
+}
+
+// A binary sheet that is there is taken, also where it cannot be read; and where there is no sheet at all, it counts as an empty one.
+fn print_either(book: &[u8]) {
+    let file = os::open_read(b"sheet.bin");
+    if is_missing(file) {
+        let typed = os::open_read(b"sheet.csv");
+        if is_missing(typed) {
+            print_sheet(book, file);
+        } else {
+            print_typed(book, typed);
+        }
+    } else {
+        print_sheet(book, file);
+    }
 }
 
 fn print_bundle(book: &[u8], file: i32) {
@@ -96,7 +132,7 @@ fn main() {
     let book_bytes = load(b"book.bin", &mut book);
     let file = os::open_read(b"bundle.bin");
     if is_missing(file) {
-        print_sheet(part(&book, 0, book_bytes));
+        print_either(part(&book, 0, book_bytes));
     } else {
         print_bundle(part(&book, 0, book_bytes), file);
     }

@@ -1,3 +1,4 @@
 pub mod Code
 pub mod TextCode
 pub mod BundleCode
+pub mod ConvertCode

@@ -1,3 +1,4 @@
 pub mod Report
 pub mod Bundle
+pub mod Typed
 pub mod Inner

@@ -1,4 +1,4 @@
-// The report of a sheet, and of a bundle, as a text: the figures, or the refusal, byte for byte. It relies on the desk only through its
+// The report of a sheet, binary or typed, and of a bundle, as a text: the figures, or the refusal, byte for byte. It relies on the desk only through its
 // promises.
 mod put;
 mod rows;
@@ -8,14 +8,18 @@ mod told;
 ghost use Rattle.desk.specs.Lent.{lent};
 ghost use Rattle.report.specs.Report.{Reported};
 ghost use Rattle.report.specs.Bundle.{ReportedBundle};
+ghost use Rattle.report.specs.Typed.{ReportedText, ReportedRefusal};
 ghost use Rattle.report.specs.Inner.{Finished};
+use answers::answer::Outcome;
 use bundle::header::MOST_SHEETS;
 use headers::sheet::MOST_LINES;
 use numerals::bytes::clear;
 use put::MOST_NUMBER;
 use rows::MOST_ROW;
 use sheets::told_bundle;
+use told::tell_refusal;
 use told::told;
+use told::told_text;
 
 // The bytes of the unit's line, at most: the word, the number and the line end.
 const MOST_UNIT: usize = 4 + MOST_NUMBER + 1;
@@ -58,5 +62,21 @@ pub fn report_bundle(book: &[u8], bundle: &[u8], text: &mut [u8]) -> Written
     ensures { λ r. ⌜ ReportedBundle (now (book .entry)) (now (bundle .entry)) (now (text .entry)) r (now (text .exit)) ⌝ }
 {
     let end = told_bundle(book, bundle, text);
+    finished(text, end)
+}
+
+// The report for a book and a sheet that was typed, of any content, likewise; a text of `MOST_TEXT` bytes always has room.
+pub fn report_text(book: &[u8], typed: &[u8], text: &mut [u8]) -> Written
+    ensures { λ r. ⌜ ReportedText (now (book .entry)) (now (typed .entry)) (now (text .entry)) r (now (text .exit)) ⌝ }
+{
+    let end = told_text(book, typed, text);
+    finished(text, end)
+}
+
+// A refusal alone, as a report has it, likewise.
+pub fn report_refusal(refusal: Outcome, text: &mut [u8]) -> Written
+    ensures { λ r. ⌜ ReportedRefusal refusal (now (text .entry)) r (now (text .exit)) ⌝ }
+{
+    let end = tell_refusal(refusal, text);
     finished(text, end)
 }

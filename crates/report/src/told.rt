@@ -5,16 +5,23 @@ ghost use lib.ListN.{take};
 ghost use Rattle.desk.specs.Lent.{lent};
 ghost use Rattle.headers.specs.Sheet.{mostLines};
 ghost use Rattle.report.specs.Report.{mostUnit, mostText, unitText, figuresText, refusalText, reportOf};
+ghost use Rattle.report.specs.Typed.{refusedText, textReportOf};
 ghost use Rattle.report.specs.Inner.{reach, mostRefusal, Puts, answerText, Tellable};
 use super::put::number;
 use super::put::put;
 use super::rows::table;
 use answers::answer::NUMBER_UNIT;
+use answers::answer::Outcome;
 use desk::cells::COLUMNS;
 use desk::declare::declare;
 use desk::table::MOST_CELLS;
 use headers::sheet::line_count;
 use headers::unit::unit_of;
+use little::part::part;
+use text::convert::Converted;
+use text::declare::book_first;
+use text::read::MOST_SHEET;
+use text::read::sheet_from_text;
 
 pub(crate) fn refusal(text: &mut [u8], at: usize, rule: u64, line: u64) -> usize
     requires { ⌜ at + mostRefusal ≤ reach ⌝ }
@@ -92,6 +99,12 @@ pub(crate) fn tell(
     refusal(text, at, code / NUMBER_UNIT, code % NUMBER_UNIT)
 }
 
+pub(crate) fn tell_refusal(refused: Outcome, text: &mut [u8]) -> usize
+    ensures { λ r. ⌜ Puts (refusedText refused) mostText 0 (now (text .entry)) r (now (text .exit)) ⌝ }
+{
+    refusal(text, 0, refused.number() as u64, refused.line() as u64)
+}
+
 // The desk is lent results with room for every sheet.
 pub(crate) fn told(book: &[u8], sheet: &[u8], text: &mut [u8]) -> usize
     ensures { λ r. ⌜ Puts (reportOf (lent (now (book .entry)) (now (sheet .entry)))) mostText
@@ -101,4 +114,16 @@ pub(crate) fn told(book: &[u8], sheet: &[u8], text: &mut [u8]) -> usize
     let mut shown = [0u64; MOST_CELLS];
     let outcome = declare(book, sheet, &mut exact, &mut shown);
     tell(text, 0, sheet, outcome.code(), &exact, &shown)
+}
+
+// A sheet that was typed is read into bytes that have room for every one.
+pub(crate) fn told_text(book: &[u8], typed: &[u8], text: &mut [u8]) -> usize
+    ensures { λ r. ⌜ Puts (textReportOf (now (book .entry)) (now (typed .entry))) mostText
+        0 (now (text .entry)) r (now (text .exit)) ⌝ }
+{
+    let mut sheet = [0u8; MOST_SHEET];
+    match sheet_from_text(typed, &mut sheet) {
+        Converted::Bytes(bytes) => told(book, part(&sheet, 0, bytes), text),
+        Converted::Refused(refused) => tell_refusal(book_first(book, refused), text),
+    }
 }

@@ -14,5 +14,6 @@ pub mod LawLines
 pub mod LawTexts
 pub mod LawLinesPut
 pub mod LawSheetText
+pub mod LawAnswer
 pub mod LawOnce
 pub mod LawShutOut

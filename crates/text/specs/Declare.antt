@@ -9,6 +9,7 @@ use Rattle.answers.specs.declared.answer.Outcome.{Outcome}
 use Rattle.answers.specs.declared.answer.Outcome.the-variants.{RefusedFile}
 use Rattle.desk.specs.Book.{bookOk}
 use Rattle.desk.specs.Lent.{lent}
+use Rattle.desk.specs.Table.{answerOf}
 use Rattle.desk.specs.Declare.{Declared}
 use Rattle.text.specs.Convert.{Made, Gives, Refuses}
 use Rattle.text.specs.Read.{sheetOfText}
@@ -26,6 +27,14 @@ pub record NoSheet (book : List ℕ) (refusal : Outcome) (exact shown : List ℕ
 abbrev pub DeclaredBy : (book : List ℕ) (sheet : Made) (exact shown : List ℕ) (r : Outcome) (exact' shown' : List ℕ) → Type 0
 DeclaredBy book (Gives sheet) exact shown r exact' shown' = Declared (lent book sheet) exact shown r exact' shown'
 DeclaredBy book (Refuses refusal) exact shown r exact' shown' = NoSheet book refusal exact shown r exact' shown'
+
+-- the answer, for results of which the shortest has this room
+abbrev pub answerBy : (book : List ℕ) (sheet : Made) (room : ℕ) → Outcome
+answerBy book (Gives sheet) room = answerOf (lent book sheet) room
+answerBy book (Refuses refusal) room = bookFirst book refusal
+
+abbrev pub textAnswer : (book text : List ℕ) (room : ℕ) → Outcome
+textAnswer book text room = answerBy book (sheetOfText text) room
 
 -- the whole promise for a book, a text and the two lent results
 abbrev pub DeclaredText : (book text exact shown : List ℕ) (r : Outcome) (exact' shown' : List ℕ) → Type 0

@@ -1,0 +1,30 @@
+-- "The program": the report of a sheet that was typed, as that of the binary sheet that is read from it; or only the refusal.
+use Prim.Native.Nat.{ℕ}
+use mathlib.Core.List.{List}
+use Rattle.answers.specs.Answer.{answerNumber, answerLine}
+use Rattle.answers.specs.declared.answer.Outcome.{Outcome}
+use Rattle.desk.specs.Lent.{lent}
+use Rattle.text.specs.Convert.{Made, Gives, Refuses}
+use Rattle.text.specs.Read.{sheetOfText}
+use Rattle.text.specs.Declare.{bookFirst}
+use Rattle.report.specs.declared.Written.{Written}
+use Rattle.report.specs.Report.{refusalText, reportOf, mostText, Wrote}
+
+unfoldable pub refusedText : (refusal : Outcome) → List ℕ
+refusedText refusal = refusalText (answerNumber refusal) (answerLine refusal)
+
+-- the book is looked at before the text
+abbrev pub reportBy : (book : List ℕ) (sheet : Made) → List ℕ
+reportBy book (Gives sheet) = reportOf (lent book sheet)
+reportBy book (Refuses refusal) = refusedText (bookFirst book refusal)
+
+unfoldable pub textReportOf : (book typed : List ℕ) → List ℕ
+textReportOf book typed = reportBy book (sheetOfText typed)
+
+-- the whole promise for a book, a text that was typed and a lent text
+abbrev pub ReportedText : (book typed text : List ℕ) (r : Written) (text' : List ℕ) → Type 0
+ReportedText book typed text r text' = Wrote (textReportOf book typed) mostText text r text'
+
+-- and for a refusal alone
+abbrev pub ReportedRefusal : (refusal : Outcome) (text : List ℕ) (r : Written) (text' : List ℕ) → Type 0
+ReportedRefusal refusal text r text' = Wrote (refusedText refusal) mostText text r text'

@@ -39,12 +39,13 @@ use Rattle.text.specs.declared.convert.Converted.the-variants.{Refused}
 use Rattle.text.specs.Typed.{headerFields, lineFields, fieldNumber, followed, numbersIn, before, linesIn, TypedSheet, sheetTyped, sheetIn, typedSheet}
 use Rattle.text.specs.Binary.{techniqueOf, kindOf, usedReadings, readingBits, lineWords, wordsOf, linesBytes, headerWords, binarySheet}
 use Rattle.text.specs.Convert.{Made, Gives, Refuses, byRoom, Converts}
-use Rattle.text.specs.Read.{binaryOf, sheetOfText}
+use Rattle.text.specs.Read.{sheetOfText}
 use Rattle.text.specs.Written.{recordEnd, recordText, usedOf, allTaken, lineTexts, linesFrom, headerTexts, linesText, textOfSheet}
 use Rattle.text.specs.Declare.{bookFirst, DeclaredBy, DeclaredText}
 use Rattle.text.proofs.LawLines.{too-long}
 use Rattle.text.proofs.LawMade.{made-right}
 use Rattle.text.proofs.LawBack.{line-given, sheet-given}
+use Rattle.text.proofs.LawCode.{made-refused}
 
 -- ---- small texts of one record: a medium, a pollutant and a unit
 
@@ -142,11 +143,13 @@ withLineOf technique kind a b c =
     (replicate 5 (nought ∷ [])
     ++ ((technique ∷ []) ∷ (nought ∷ []) ∷ (kind ∷ []) ∷ (nought ∷ []) ∷ (nought ∷ []) ∷ (a ∷ []) ∷ (b ∷ []) ∷ (c ∷ []) ∷ []))
 
--- one that keeps hours of technique 0
-pub untreated-hours-kept : sheetOfText (withLineOf nought one one two two) ≡ sheetOfText (withLineOf nought one nought nought nought)
+-- one that keeps hours of technique 0: they are read, and the sheet is that of zeros
+pub untreated-hours-kept : (typedSheet (withLineOf nought one one two two)
+    ≡ some (record { header = 1 ∷ 1 ∷ 1 ∷ []; lines = (replicate 7 0 ++ (1 ∷ 0 ∷ 0 ∷ 1000 ∷ 2000 ∷ 2000 ∷ [])) ∷ [] }))
+    × (sheetOfText (withLineOf nought one one two two) ≡ sheetOfText (withLineOf nought one nought nought nought))
 unfolding sheetOfText typedSheet recordText recordsOf pieces ended numbersIn linesIn fieldNumber contentOf isQuoted every numberIn isNumeral
     allDigits valueOf decimalIn pointIn first placesIn binarySheet wordsOf headerWords linesBytes lineWords readingBits usedReadings word
-untreated-hours-kept = refl
+untreated-hours-kept = (refl, refl)
 
 -- one that does not look at a reading that is not used: a minus sign for a
 pub unused-but-malformed : typedSheet (withLineOf nought nought minus nought nought) ≡ none
@@ -311,15 +314,6 @@ no-file (suc n) l fault e = go (byLines n l) (l n) (no-file n l fault) e
     go Accepted (Refusal f) other h = clash (cc)
     go (RefusedFile f) line other h = other h
     go (RefusedLine f i) line other h = clash (cc)
-
--- a text of which no sheet is made is malformed
-made-refused : (text : List ℕ) (refusal : Outcome) → sheetOfText text ≡ Refuses refusal → refusal ≡ RefusedFile TextMalformed
-unfolding sheetOfText
-made-refused text refusal e = go (typedSheet text) e
-  where
-    go : (typed : Option TypedSheet) → binaryOf typed ≡ Refuses refusal → refusal ≡ RefusedFile TextMalformed
-    go none h = cc
-    go (some sheet) h = clash (cc)
 
 module _ (book : List ℕ) where
   -- a book that is not right, whatever the sheet

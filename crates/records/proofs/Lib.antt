@@ -1,3 +1,4 @@
 pub mod LawField
 pub mod LawContent
 pub mod LawWhole
+pub mod LawShutOut

@@ -15,3 +15,6 @@ pub mod LawTexts
 pub mod LawLinesPut
 pub mod LawSheetText
 pub mod LawAnswer
+pub mod LawCode
+pub mod LawOnce
+pub mod LawShutOut

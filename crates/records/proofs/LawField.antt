@@ -1,21 +1,20 @@
 -- How a text is cut, from its front: a byte that ends no field belongs to the first one; where the field ends, the text behind it has the
 -- other fields and records. Assumes nothing.
-use Prim.Native.Nat.{ℕ, zero, suc, _+_, _-_, _≤_, _<_}
+use Prim.Native.Nat.{ℕ, suc, _+_, _-_, _≤_, _<_}
 use mathlib.Core.Path.{_≡_, refl, sym, ap, _∙_}
-use mathlib.Core.Logic.{_⊎_, inl, inr}
-use mathlib.Core.Bool.{Bool, true, false, cond, _&&_, _||_}
+use mathlib.Core.Bool.{Bool, true, false, _&&_, _||_}
 use mathlib.Core.List.{List, [], _∷_}
 use native.Mathlib.Nat.{add-zero}
 use native.Mathlib.Numerals.{add-one}
 use native.Mathlib.Omega.{arith}
 use lib.Dec.{leb, eqb}
-use lib.ListN.{length, take, drop, getD, drop-of-length-le}
+use lib.ListN.{length, take, drop, drop-of-length-le}
 use lib.Seq.{drop-cons, drop-drop, getD-drop}
 use borrow.Author.Tests.{eqb-true, ne-eqb, le-leb, lt-leb, leb-true, leb-false, eqb-false}
 use Rattle.little.specs.Read.{byteAt}
 use Rattle.little.specs.Part.{partOf}
 use Rattle.search.proofs.LawTest.{either-way, clash, and-left, and-right}
-use Rattle.records.specs.Records.{comma, quote, carriageReturn, lineFeed, Pieces, noPieces, recordIn, onto, returned, outside, turned, pieces}
+use Rattle.records.specs.Records.{comma, quote, carriageReturn, lineFeed, Pieces, noPieces, recordIn, onto, returned, turned, pieces}
 use Rattle.records.specs.Records.{isBlank, ended, recordsOf, fieldEnd}
 use Rattle.records.specs.Follow.{endsField, behind, following}
 use Rattle.records.specs.declared.field.Behind.{Behind}

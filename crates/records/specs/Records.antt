@@ -90,7 +90,7 @@ fieldEnd text at = at + length (pieces false (drop at text) .field)
 unfoldable pub isQuoted : (field : List ℕ) → Bool
 isQuoted field = every (leb 2 (length field) ∷ eqb (byteAt field 0) quote ∷ eqb (byteAt field (length field - 1)) quote ∷ [])
 
--- what it holds: what stands between its quotes, or all of it. Between them `""` stands for a quote; it is left as it is, since whoever asks
--- for a field that may have one undoes it, and in a numeral neither is found
+-- what it holds: what stands between its quotes, or all of it. Between them `""` stands for a quote; it is left as it is, since a numeral
+-- has neither
 unfoldable pub contentOf : (field : List ℕ) → List ℕ
 contentOf field = cond (isQuoted field) (partOf field 1 (length field - 2)) field

@@ -1,5 +1,5 @@
-// The report of a sheet, binary or typed, and of a bundle, as a text: the figures, or the refusal, byte for byte. It relies on the desk only through its
-// promises.
+// The report of a sheet, binary or typed, and of a bundle, as a text: the figures, or the refusal, byte for byte. It relies on the desk
+// only through its promises.
 mod put;
 mod rows;
 mod sheets;

@@ -28,9 +28,9 @@ use Rattle.text.specs.Convert.{Made, Gives, Refuses}
 use Rattle.text.specs.Typed.{aCode, anAmount, headerFields, linesIn, noneZero, typedSheet}
 use Rattle.text.specs.Written.{recordText, mostRecord, mostSheetText, kindNumber, usedOf, allTaken, lineTexts, linesFrom, headerTexts}
 use Rattle.text.specs.Written.{readingTexts, inFront, withLine, linesText, textOfSheet}
-use Rattle.text.specs.Inner.{linesNumbers, sheetNumbers}
+use Rattle.text.specs.Inner.{linesNumbers, sheetNumbers, wholeNumbers}
 use Rattle.text.proofs.LawRecord.{WrittenFields, written-numerals, written-readings, readings-count, record-first, record-short}
-use Rattle.text.proofs.LawWritten.{FieldFits, FieldsFit, done, _and_, field-fits, wholeFields, wholeNumbers, line-again, headerNumbers, header-again, used-typable}
+use Rattle.text.proofs.LawWritten.{FieldFits, FieldsFit, done, _and_, field-fits, wholeFields, line-again, headerNumbers, header-again, used-typable}
 
 -- ---- what was given
 

@@ -1,13 +1,12 @@
 -- A field at a place of the text, as a number.
 use Prim.Native.Nat.{ℕ, _-_}
-use mathlib.Core.Path.{_≡_, refl, sym, ap, _∙_}
-use mathlib.Core.Bool.{Bool, true, false}
-use mathlib.Core.List.{List, [], _∷_}
+use mathlib.Core.Path.{_≡_, refl, _∙_}
+use mathlib.Core.Bool.{Bool, false}
+use mathlib.Core.List.{List}
 use native.Mathlib.Omega.{arith}
 use lib.ListN.{drop}
 use denote.Enum.Declared.{tagOf}
 use Rattle.little.specs.Part.{partOf}
-use Rattle.search.proofs.LawTest.{clash}
 use Rattle.numerals.specs.declared.typed.Typed.{Typed}
 use Rattle.numerals.specs.declared.typed.Typed.the-variants.{Is, Malformed}
 use Rattle.numerals.proofs.typed.Typed.{the-type}
@@ -15,8 +14,7 @@ use Rattle.records.specs.Records.{pieces, fieldEnd}
 use Rattle.records.specs.Follow.{behind}
 use Rattle.records.specs.declared.field.Behind.{Behind}
 use Rattle.records.proofs.LawField.{field-bytes}
-use Rattle.text.specs.declared.field.FieldRead.{FieldRead}
-use Rattle.text.specs.declared.field.FieldRead.the-variants.{Number, Broken}
+use Rattle.text.specs.declared.field.FieldRead.the-variants.{Broken}
 use Rattle.text.specs.Typed.{fieldNumber}
 use Rattle.text.specs.Inner.{takenIf, withNumber, fieldRead}
 

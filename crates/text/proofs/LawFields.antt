@@ -1,5 +1,5 @@
 -- A record read field by field: the numbers so far stand before those of the rest of the record.
-use Prim.Native.Nat.{ℕ, suc, _+_, _≤_, _<_}
+use Prim.Native.Nat.{ℕ, _+_, _≤_, _<_}
 use mathlib.Core.Path.{_≡_, refl, sym, ap, _∙_}
 use mathlib.Core.Bool.{Bool, true, false}
 use mathlib.Core.List.{List, [], _∷_, _++_, append-assoc, append-nil}
@@ -10,7 +10,7 @@ use lib.Dec.{eqb}
 use lib.ListN.{length, take, drop, getD, set, length-set, drop-of-length-le}
 use lib.Seq.{drop-cons, take-suc-set, take-all}
 use borrow.Author.Tests.{eqb-true, eqb-false, eq-eqb, ne-eqb}
-use Rattle.search.proofs.LawTest.{either-way, clash}
+use Rattle.search.proofs.LawTest.{clash}
 use Rattle.numerals.specs.declared.typed.Typed.{Typed}
 use Rattle.numerals.specs.declared.typed.Typed.the-variants.{Is, Malformed}
 use Rattle.records.specs.Records.{Pieces, pieces, recordIn, recordsOf, fieldEnd}
@@ -18,7 +18,6 @@ use Rattle.records.specs.Follow.{behind, following}
 use Rattle.records.specs.declared.field.Behind.{Behind}
 use Rattle.records.specs.declared.field.Behind.the-variants.{Field, Record}
 use Rattle.records.proofs.LawField.{Follows, follows}
-use Rattle.text.specs.declared.field.FieldRead.{FieldRead}
 use Rattle.text.specs.declared.field.FieldRead.the-variants.{Number, Broken}
 use Rattle.text.specs.Typed.{followed, fieldNumber, numbersIn}
 use Rattle.text.specs.Inner.{takenIf, withNumber, fieldRead}

@@ -1,5 +1,5 @@
 -- The records of a text read one after the other, each laid as a line behind those before it; and the header laid last, in front of them.
-use Prim.Native.Nat.{ℕ, zero, suc, _+_, _*_, _≤_, _<_}
+use Prim.Native.Nat.{ℕ, zero, suc, _+_, _≤_, _<_}
 use mathlib.Core.Path.{_≡_, refl, sym, ap, _∙_}
 use mathlib.Core.Bool.{Bool, true, false, not, _&&_, _||_}
 use mathlib.Core.List.{List, [], _∷_, _++_, append-assoc, append-nil}
@@ -8,18 +8,18 @@ use native.Mathlib.Nat.{zero-add}
 use native.Mathlib.Omega.{arith}
 use lib.Dec.{leb, eqb}
 use lib.ListN.{length, drop, getD, length-append, length-drop, drop-of-length-le}
-use borrow.Author.Tests.{le-leb, lt-leb, eqb-true, eqb-false, ne-eqb, leb-true}
+use borrow.Author.Tests.{le-leb, lt-leb, ne-eqb}
 use Rattle.search.specs.Test.{every}
 use Rattle.search.proofs.LawTest.{either-way, clash}
 use Rattle.headers.specs.House.{mostBytes}
-use Rattle.headers.specs.Sheet.{sheetHeaderSize, lineSize, mostLines}
+use Rattle.headers.specs.Sheet.{sheetHeaderSize, mostLines}
 use Rattle.numerals.specs.Laid.{laid}
 use Rattle.numerals.specs.Typed.{isNumeral, numberIn}
 use Rattle.numerals.proofs.LawLaid.{laid-more, laid-none, laid-before, length-laid}
 use Rattle.records.specs.Records.{pieces, recordIn, recordsOf, isQuoted, contentOf}
 use Rattle.records.specs.Follow.{following}
 use Rattle.records.proofs.LawField.{some-records, no-records}
-use Rattle.text.specs.Typed.{headerFields, lineFields, fieldNumber, numbersIn, before, linesIn, fewLines, noneZero, TypedSheet, sheetTyped, sheetIn, typedSheet}
+use Rattle.text.specs.Typed.{headerFields, lineFields, fieldNumber, numbersIn, before, linesIn, fewLines, noneZero, sheetTyped, sheetIn, typedSheet}
 use Rattle.text.specs.Binary.{lineBytes, linesBytes, sheetSize, headerSizes, headerWords, wordsOf, binarySheet}
 use Rattle.text.specs.Inner.{allBefore, LinesLaid, SheetLaid}
 use Rattle.text.proofs.LawBinary.{lines-size, header-size}

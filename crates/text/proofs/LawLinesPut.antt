@@ -3,7 +3,7 @@ use Prim.Native.Nat.{ℕ, suc, _+_, _-_, _*_, _≤_, _<_}
 use mathlib.Core.Path.{_≡_, refl, sym, ap, _∙_}
 use mathlib.Core.Bool.{true}
 use mathlib.Core.List.{List, [], _∷_, _++_, append-assoc, append-nil}
-use mathlib.Core.Option.{none, some}
+use mathlib.Core.Option.{none}
 use native.Mathlib.Numerals.{add-one}
 use native.Mathlib.Omega.{arith}
 use lib.ListN.{length, length-append}
@@ -21,7 +21,7 @@ use Rattle.desk.specs.declared.line.SheetLine.the-variants.{There, NotThere}
 use Rattle.desk.proofs.LawFound.{right-line}
 use Rattle.text.specs.Convert.{Made, Gives, Refuses}
 use Rattle.text.specs.Written.{mostRecord, recordText, usedOf, allTaken, lineTexts, linesFrom, inFront, linesText}
-use Rattle.text.specs.Inner.{Puts, LinePut, LinesPut}
+use Rattle.text.specs.Inner.{LinePut, LinesPut}
 
 -- ---- bytes in front
 

@@ -1,17 +1,16 @@
 -- A record laid field by field, and the records of the lines one after the other.
-use Prim.Native.Nat.{ℕ, zero, suc, _+_, _-_, _*_, _≤_, _<_}
+use Prim.Native.Nat.{ℕ, _+_, _*_, _≤_, _<_}
 use mathlib.Core.Path.{_≡_, refl, sym, ap, _∙_}
-use mathlib.Core.Bool.{Bool, true, false, _&&_}
-use mathlib.Core.List.{List, [], _∷_, _++_, append-assoc, append-nil}
-use mathlib.Core.Option.{Option, none, some}
-use native.Mathlib.Nat.{add-assoc}
+use mathlib.Core.Bool.{_&&_}
+use mathlib.Core.List.{List, [], _∷_, _++_}
+use mathlib.Core.Option.{none}
 use native.Mathlib.Numerals.{add-one}
 use native.Mathlib.Omega.{arith}
 use lib.Dec.{leb, ltb, eqb}
 use lib.ListN.{length, drop, getD, drop-of-length-le, length-append}
 use lib.Seq.{drop-cons}
 use borrow.Author.Tests.{eqb-true, eqb-false}
-use Rattle.search.proofs.LawTest.{either-way, clash}
+use Rattle.search.proofs.LawTest.{either-way}
 use Rattle.numerals.specs.Laid.{laid, Lays}
 use Rattle.numerals.specs.Numeral.{mostDecimal}
 use Rattle.numerals.proofs.LawLaid.{laid-more, laid-none, length-laid}

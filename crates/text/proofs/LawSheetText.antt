@@ -1,18 +1,16 @@
 -- The text of a sheet: its header's record, and those of its lines.
 use Prim.Native.Nat.{ℕ, _+_}
-use mathlib.Core.Path.{_≡_, refl, sym, ap, _∙_}
+use mathlib.Core.Path.{_≡_, refl, _∙_}
 use mathlib.Core.Bool.{true, false}
 use mathlib.Core.List.{List, [], _∷_, _++_}
-use native.Mathlib.Nat.{zero-add}
 use native.Mathlib.Omega.{arith}
 use lib.ListN.{length, length-append}
 use Rattle.headers.specs.Sheet.{sheetHeader}
 use Rattle.answers.specs.declared.answer.FileFault.the-variants.{SheetMalformed}
 use Rattle.answers.specs.declared.answer.LineFault.the-variants.{BadReading}
-use Rattle.answers.specs.declared.answer.Outcome.{Outcome}
 use Rattle.answers.specs.declared.answer.Outcome.the-variants.{RefusedFile, RefusedLine}
 use Rattle.numerals.specs.Laid.{laid}
-use Rattle.numerals.proofs.LawLaid.{laid-more, length-laid}
+use Rattle.numerals.proofs.LawLaid.{laid-more}
 use Rattle.desk.specs.Sheet.{sheetOk}
 use Rattle.headers.specs.Sheet.{lineCount}
 use Rattle.text.specs.Convert.{Gives, Refuses}

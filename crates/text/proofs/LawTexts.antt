@@ -1,8 +1,7 @@
 -- A line's record: the used readings with places, and then what is left of the three as 0.
 use Prim.Native.Nat.{ℕ, _+_, _≤_}
-use mathlib.Core.Path.{_≡_, refl, sym, ap, _∙_}
-use mathlib.Core.Bool.{true, false}
-use mathlib.Core.List.{List, [], _∷_}
+use mathlib.Core.Path.{_≡_, refl, sym, ap}
+use mathlib.Core.List.{List, [], _∷_, _++_}
 use mathlib.Core.Option.{Option, none, some}
 use native.Mathlib.Omega.{arith}
 use lib.Dec.{eqb}
@@ -14,8 +13,8 @@ use Rattle.shares.specs.declared.share.Reading.{Reading}
 use Rattle.shares.specs.declared.share.Reading.the-variants.{None, Hours, Energy, Throughout}
 use Rattle.desk.specs.declared.line.Line.{Line}
 use Rattle.text.specs.declared.line.Readings.the-variants.{Used, BadOne}
-use Rattle.text.specs.Written.{recordText, mostRecord, kindNumber, readingsOf, usedOf, allTaken, readingTexts, lineTexts}
-use Rattle.text.specs.Inner.{readingsMade, textsFrom, Puts, LinePut}
+use Rattle.text.specs.Written.{recordText, mostRecord, readingsOf, usedOf, allTaken, readingTexts, lineTexts}
+use Rattle.text.specs.Inner.{readingsMade, textsFrom, wholeNumbers, Puts, LinePut}
 
 pub used-bad : (o : Option (List ℕ)) → readingsMade o ≡ BadOne → o ≡ none
 used-bad none e = refl
@@ -65,21 +64,7 @@ used-most line u a b c made = go (allTaken (usedOf line)) refl
 module _ (line : Line) where
   -- the numbers of its record, with these as a, b, c
   abbrev pub numbers : (a b c : ℕ) → List ℕ
-  numbers a b c =
-      line .key .industry
-      ∷ line .key .product
-      ∷ line .key .material
-      ∷ line .key .process
-      ∷ line .key .scale
-      ∷ line .technique
-      ∷ line .reuse
-      ∷ kindNumber (line .reading)
-      ∷ line .product
-      ∷ line .material
-      ∷ a
-      ∷ b
-      ∷ c
-      ∷ []
+  numbers a b c = wholeNumbers line ++ (a ∷ b ∷ c ∷ [])
 
   fields-are : (ts : List ℕ) → length ts ≤ 3
       → textsFrom 10 (10 + length ts) 0 (numbers (getD ts 0 0) (getD ts 1 0) (getD ts 2 0)) ≡ lineTexts line ts

@@ -24,8 +24,8 @@ use Rattle.numerals.proofs.LawBack.{number-back, decimal-back, zero-decimal}
 use Rattle.records.proofs.LawWhole.{plain-content}
 use Rattle.desk.specs.declared.line.Line.{Line}
 use Rattle.text.specs.Typed.{aReading, aCode, anAmount, headerFields, lineFields, fieldNumber, numbersIn}
-use Rattle.text.specs.Written.{kindNumber, readingsOf, usedOf, ahead, allTaken, readingTexts, lineTexts, headerTexts}
-use Rattle.text.specs.Inner.{padded, lineNumbers}
+use Rattle.text.specs.Written.{readingsOf, usedOf, ahead, allTaken, readingTexts, lineTexts, headerTexts}
+use Rattle.text.specs.Inner.{padded, lineNumbers, wholeNumbers}
 use Rattle.text.proofs.LawRecord.{written-numeral, written-decimal}
 
 -- ---- one field
@@ -83,20 +83,6 @@ readings-again (suc n) (t ∷ ts) h = rw (decimal-again t (h 0), readings-again 
 -- a line's whole numbers; its readings follow them
 abbrev pub wholeFields : List ℕ
 wholeFields = aCode ∷ aCode ∷ aCode ∷ aCode ∷ aCode ∷ aCode ∷ aCode ∷ 3 ∷ anAmount ∷ anAmount ∷ []
-
-abbrev pub wholeNumbers : Line → List ℕ
-wholeNumbers line =
-    line .key .industry
-    ∷ line .key .product
-    ∷ line .key .material
-    ∷ line .key .process
-    ∷ line .key .scale
-    ∷ line .technique
-    ∷ line .reuse
-    ∷ kindNumber (line .reading)
-    ∷ line .product
-    ∷ line .material
-    ∷ []
 
 pub line-again : (line : Line) (ts : List ℕ) → FieldsFit wholeFields (wholeNumbers line) → Typable ts
     → numbersIn lineFields (lineTexts line ts) ≡ some (lineNumbers line ts)

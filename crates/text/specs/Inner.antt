@@ -2,7 +2,7 @@
 use Prim.Native.Nat.{ℕ, zero, suc, _+_, _*_, _≤_, _<_}
 use mathlib.Core.Path.{_≡_}
 use mathlib.Core.Bool.{Bool, false, cond, _&&_}
-use mathlib.Core.List.{List, [], _∷_}
+use mathlib.Core.List.{List, [], _∷_, _++_}
 use mathlib.Core.Option.{Option, none, some}
 use lib.Dec.{leb, ltb}
 use lib.ListN.{length, drop, getD, replicate}
@@ -177,8 +177,9 @@ padded zero ts = []
 padded (suc n) [] = 0 ∷ padded n []
 padded (suc n) (t ∷ ts) = t ∷ padded n ts
 
-unfoldable pub lineNumbers : (line : Line) (thousandths : List ℕ) → List ℕ
-lineNumbers line ts =
+-- the ten whole numbers of a line
+abbrev pub wholeNumbers : (line : Line) → List ℕ
+wholeNumbers line =
     line .key .industry
     ∷ line .key .product
     ∷ line .key .material
@@ -189,7 +190,10 @@ lineNumbers line ts =
     ∷ kindNumber (line .reading)
     ∷ line .product
     ∷ line .material
-    ∷ padded 3 ts
+    ∷ []
+
+unfoldable pub lineNumbers : (line : Line) (thousandths : List ℕ) → List ℕ
+lineNumbers line ts = wholeNumbers line ++ padded 3 ts
 
 -- the used readings of a line that has no bad one
 abbrev pub takenNumbers : Option (List ℕ) → List ℕ

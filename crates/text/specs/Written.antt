@@ -122,4 +122,5 @@ linesText i (line ∷ lines) = withLine i line (allTaken (usedOf line)) (linesTe
 
 unfoldable pub textOfSheet : (s : List ℕ) → Made
 textOfSheet s =
-    cond (sheetOk s) (inFront (recordText (headerTexts s)) (linesText 0 (linesFrom s 0 (lineCount s)))) (Refuses (RefusedFile SheetMalformed))
+    cond (sheetOk s) (inFront (recordText (headerTexts s)) (linesText 0 (linesFrom s 0 (lineCount s))))
+    (Refuses (RefusedFile SheetMalformed))

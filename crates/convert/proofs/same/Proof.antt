@@ -1,6 +1,5 @@
 -- The loop ends, and every read is inside both.
 use Prim.Native.Nat.{_≤_, _-_}
-use native.Mathlib.Omega.{arith}
 use lib.ListN.{length}
 use borrow.Author.Needs.{needs}
 use Rattle.convert.proofs.same.Statement.{statement}

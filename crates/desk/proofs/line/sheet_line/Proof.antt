@@ -1,6 +1,5 @@
 -- Each test that fails names the case; where both pass, the line is there.
-use Prim.Native.Nat.{_≤_, _<_, _+_}
-use mathlib.Core.Path.{_≡_, ap, sym, _∙_}
+use mathlib.Core.Path.{ap, sym, _∙_}
 use native.Mathlib.Omega.{arith}
 use borrow.Author.Needs.{needs}
 use Rattle.desk.specs.declared.line.SheetLine.the-variants.{There}
@@ -29,7 +28,8 @@ line-of-requires c κs =
 returns-3 : tie.Need-returns-3
 returns-3 c =
     ap There (c .line-of .ensures .eq)
-    ∙ sym (line-there (c .before .before .before .before .before .before .args .s .now) (c .before .before .before .before .before .before .args .i) (omega (arith, c .before .before .before .before .line-count .ensures .eq, c .before .before .before .if1 .left))
+    ∙ sym (line-there (c .before .before .before .before .before .before .args .s .now) (c .before .before .before .before .before .before .args .i)
+    (omega (arith, c .before .before .before .before .line-count .ensures .eq, c .before .before .before .if1 .left))
     (omega (arith, c .before .before .line-start .ensures .eq, c .before .if2 .left)))
 
 pub sheet-line-spec : {M : Type 1} → statement M

@@ -1,6 +1,5 @@
 -- A quoted field has at least its two quotes.
-use mathlib.Core.Path.{_≡_, sym, _∙_}
-use native.Mathlib.Omega.{arith}
+use mathlib.Core.Path.{sym, _∙_}
 use borrow.Author.Needs.{needs}
 use Rattle.records.specs.Records.{contentOf}
 use Rattle.records.proofs.LawContent.{quoted-long}

@@ -1,9 +1,6 @@
 -- Inside quotes nothing ends; outside them a comma does, or a carriage return and a line feed.
-use Prim.Native.Nat.{ℕ}
-use mathlib.Core.Path.{_≡_, sym, _∙_}
-use mathlib.Core.Bool.{Bool}
+use mathlib.Core.Path.{sym, _∙_}
 use borrow.Author.Needs.{needs}
-use Rattle.records.specs.Follow.{endsField}
 use Rattle.records.proofs.LawField.{ends-quoted, ends-comma, ends-return}
 use Rattle.records.proofs.field.ends_field.Statement.{statement}
 use Rattle.records.proofs.field.ends_field.Tie as tie

@@ -1,7 +1,6 @@
 -- The invariant: the field ends as far from here as the text from here on says.
-use Prim.Native.Nat.{ℕ, _+_, _-_}
+use Prim.Native.Nat.{_+_, _-_}
 use mathlib.Core.Path.{_≡_, sym, _∙_}
-use mathlib.Core.Bool.{true, false}
 use native.Mathlib.Omega.{arith}
 use lib.ListN.{length, drop}
 use borrow.Author.Needs.{needs}
@@ -28,7 +27,8 @@ returns c =
 loop-again : tie.Need-loop-again Inv-loop μ-loop
 loop-again c =
     let inside = c .before .before .before .before .loop-test .taken in
-    let on = goes-on (c .before .before .before .before .before .before .before .args .text .now) (c .before .before .before .before .before .loop .i) (c .before .before .before .before .before .loop .quoted) inside (sym (c .before .before .before .ends-field .ensures) ∙ c .before .before .if1 .left) in
+    let on = goes-on (c .before .before .before .before .before .before .before .args .text .now) (c .before .before .before .before .before .loop .i) (c .before .before .before .before .before .loop .quoted) inside
+    (sym (c .before .before .before .ends-field .ensures) ∙ c .before .before .if1 .left) in
     rw (c .turned .ensures, c .before .byte-at .ensures .eq) (omega (arith, c .before .before .before .before .before .loop .inv, on))
 
 returns-2 : tie.Need-returns-2 Inv-loop μ-loop

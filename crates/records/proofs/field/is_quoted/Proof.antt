@@ -1,5 +1,4 @@
 -- A field of fewer than two bytes is not quoted; of more, both its ends are looked at.
-use Prim.Native.Nat.{_≤_}
 use native.Mathlib.Omega.{arith}
 use borrow.Author.Needs.{needs}
 use Rattle.records.proofs.LawContent.{too-short, by-ends}

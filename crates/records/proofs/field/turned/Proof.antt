@@ -1,5 +1,4 @@
 -- A quote turns it round.
-use borrow.Author.Needs.{needs}
 use borrow.Author.Tests.{eq-eqb, ne-eqb}
 use Rattle.records.specs.Records.{quote}
 use Rattle.records.proofs.field.turned.Statement.{statement}

@@ -1,5 +1,5 @@
 -- Each case by its law.
-use mathlib.Core.Path.{_≡_, sym, _∙_}
+use mathlib.Core.Path.{sym, _∙_}
 use native.Mathlib.Omega.{arith}
 use borrow.Author.Needs.{needs}
 use Rattle.records.proofs.LawField.{at-text-end, at-comma, at-line-end}

@@ -1,5 +1,5 @@
 -- By the book.
-use mathlib.Core.Path.{_≡_, sym, _∙_}
+use mathlib.Core.Path.{sym, _∙_}
 use borrow.Author.Needs.{needs}
 use Rattle.text.proofs.declare.book_first.Statement.{statement}
 use Rattle.text.proofs.declare.book_first.Tie as tie

@@ -1,5 +1,4 @@
 -- By what the field takes.
-use mathlib.Core.Path.{sym, _∙_}
 use borrow.Author.Tests.{eq-eqb, ne-eqb}
 use borrow.Author.Needs.{needs}
 use Rattle.text.specs.Typed.{aReading, fieldNumber}

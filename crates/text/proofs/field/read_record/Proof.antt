@@ -1,5 +1,5 @@
 -- The invariant: the numbers so far stand before those of the rest of the record.
-use Prim.Native.Nat.{ℕ, _-_}
+use Prim.Native.Nat.{_-_}
 use mathlib.Core.Path.{sym, _∙_}
 use native.Mathlib.Omega.{arith}
 use lib.ListN.{length}
@@ -19,12 +19,16 @@ loop-holds c = record-start (c .before .before .before .args .text .now) (c .bef
 
 returns : tie.Need-returns Inv-loop μ-loop
 returns c =
-    record-broken (c .before .before .before .before .before .before .before .before .before .args .text .now) (c .before .before .before .before .before .before .before .before .before .args .at) (c .before .before .before .before .before .before .before .before .before .args .takes .now) (c .before .before .before .before .before .loop .numbers) (c .before .before .before .before .before .loop .next) (c .before .before .before .before .before .loop .j)
+    record-broken (c .before .before .before .before .before .before .before .before .before .args .text .now) (c .before .before .before .before .before .before .before .before .before .args .at)
+    (c .before .before .before .before .before .before .before .before .before .args .takes .now) (c .before .before .before .before .before .loop .numbers) (c .before .before .before .before .before .loop .next)
+    (c .before .before .before .before .before .loop .j)
     (c .before .before .before .before .before .loop .inv) (c .before .before .before .before .loop-test .taken) (sym (c .before .before .field-at .ensures) ∙ c .enum-told .given .1)
 
 loop-again : tie.Need-loop-again Inv-loop μ-loop
 loop-again c =
-    record-step (c .before .before .before .before .before .before .before .before .before .before .args .text .now) (c .before .before .before .before .before .before .before .before .before .before .args .at) (c .before .before .before .before .before .before .before .before .before .before .args .takes .now) (c .before .before .before .before .before .before .loop .numbers) (c .before .before .before .before .before .before .loop .next) (c .before .before .before .before .before .before .loop .j)
+    record-step (c .before .before .before .before .before .before .before .before .before .before .args .text .now) (c .before .before .before .before .before .before .before .before .before .before .args .at)
+    (c .before .before .before .before .before .before .before .before .before .before .args .takes .now) (c .before .before .before .before .before .before .loop .numbers)
+    (c .before .before .before .before .before .before .loop .next) (c .before .before .before .before .before .before .loop .j)
     (c .before .before .before .before .before .before .loop .inv) (c .before .before .before .before .before .loop-test .taken) _ _ (sym (c .before .before .before .field-at .ensures) ∙ c .before .number .given .1)
 
 same-length : tie.Need-same-length Inv-loop μ-loop
@@ -46,4 +50,5 @@ loop-less c = omega (arith, c .before .before .before .before .before .loop-test
 
 pub read-record-spec : {M : Type 1} → statement M
 read-record-spec = tie.close
-    (tie.spec Inv-loop μ-loop loop-holds (λ c. search needs) (λ c. search needs) (λ c. search needs) (λ c κs. search needs) (λ c. search needs) (λ c. search needs) same-length returns (λ c. search needs) slice-write-numbers (λ c. search needs) loop-less loop-again same-length-2 returns-2)
+    (tie.spec Inv-loop μ-loop loop-holds (λ c. search needs) (λ c. search needs) (λ c. search needs) (λ c κs. search needs) (λ c. search needs) (λ c. search needs) same-length returns (λ c. search needs) slice-write-numbers
+    (λ c. search needs) loop-less loop-again same-length-2 returns-2)

@@ -16,7 +16,11 @@ returns-2 c =
 returns-3 : tie.Need-returns-3
 unfolding allTaken
 returns-3 c =
-    rw (first-taken _ (hoursOf _) _ (c .before .before .before .before .before .before .before .parts-of .ensures) _ (c .before .before .before .before .before .a .given .1), first-taken _ (hoursOf _) _ (c .before .before .before .parts-of2 .ensures) _ (c .before .b .given .1))
+    rw (
+      first-taken _ (hoursOf _) _ (c .before .before .before .before .before .before .before .parts-of .ensures) _ (c .before .before .before .before .before .a .given .1),
+      first-taken _ (hoursOf _) _
+          (c .before .before .before .parts-of2 .ensures) _ (c .before .b .given .1),
+    )
 
 pub of-hours-spec : {M : Type 1} → statement M
 of-hours-spec = tie.close

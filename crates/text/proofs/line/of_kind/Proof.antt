@@ -1,6 +1,6 @@
 -- By cases on the kind.
 use borrow.Author.Needs.{needs}
-use Rattle.text.specs.Written.{readingsOf, allTaken}
+use Rattle.text.specs.Written.{allTaken}
 use Rattle.text.proofs.line.of_kind.Statement.{statement}
 use Rattle.text.proofs.line.of_kind.Tie as tie
 

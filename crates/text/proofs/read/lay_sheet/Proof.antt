@@ -20,27 +20,36 @@ returns-2 c = no-header (c .before .before .before .before .before .before .befo
 returns-3 : tie.Need-returns-3
 returns-3 c =
     let found = rw (c .before .before .at .given .1) at (c .before .before .before .before .before .read-record .ensures) in
-    zero-header (c .before .before .before .before .before .before .before .before .before .before .before .args .text .now) (omega (arith, c .before .before .before .before .before .before .before .before .if1 .left)) _ (found .0) (c .if2 .taken)
+    zero-header (c .before .before .before .before .before .before .before .before .before .before .before .args .text .now) (omega (arith, c .before .before .before .before .before .before .before .before .if1 .left)) _ (found .0)
+    (c .if2 .taken)
 
 returns-4 : tie.Need-returns-4
 returns-4 c =
     let found = rw (c .before .before .before .before .before .before .before .before .at .given .1) at (c .before .before .before .before .before .before .before .before .before .before .before .read-record .ensures) in
-    bad-lines (c .before .before .before .before .before .before .before .before .before .before .before .before .before .before .before .before .before .args .text .now) (omega (arith, c .before .before .before .before .before .before .before .before .before .before .before .before .before .before .if1 .left)) _ (found .0) (c .before .before .before .before .before .before .before .before .at .given .0 .0) (found .1)
+    bad-lines (c .before .before .before .before .before .before .before .before .before .before .before .before .before .before .before .before .before .args .text .now)
+    (omega (arith, c .before .before .before .before .before .before .before .before .before .before .before .before .before .before .if1 .left)) _ (found .0)
+    (c .before .before .before .before .before .before .before .before .at .given .0 .0) (found .1)
     (rw (c .enum-told2 .given .1) at (c .before .before .before .before .lay-lines .ensures))
 
 lay-header-requires : tie.Need-lay-header-requires
 lay-header-requires c κs =
-    let found = rw (c .before .before .before .before .before .before .before .before .before .before .before .at .given .1) at (c .before .before .before .before .before .before .before .before .before .before .before .before .before .before .read-record .ensures) in
+    let found = rw (c .before .before .before .before .before .before .before .before .before .before .before .at .given .1) at
+    (c .before .before .before .before .before .before .before .before .before .before .before .before .before .before .read-record .ensures) in
     let lines = rw (c .before .before .before .lines .given .1) at (c .before .before .before .before .before .before .before .lay-lines .ensures) in
     (numbers-size headerFields _ _ (found .0), lines .few)
 
 returns-5 : tie.Need-returns-5
 returns-5 c =
-    let found = rw (c .before .before .before .before .before .before .before .before .before .before .before .before .before .before .at .given .1) at (c .before .before .before .before .before .before .before .before .before .before .before .before .before .before .before .before .before .read-record .ensures) in
+    let found = rw (c .before .before .before .before .before .before .before .before .before .before .before .before .before .before .at .given .1) at
+    (c .before .before .before .before .before .before .before .before .before .before .before .before .before .before .before .before .before .read-record .ensures) in
     let lines = rw (c .before .before .before .before .before .before .lines .given .1) at (c .before .before .before .before .before .before .before .before .before .before .lay-lines .ensures) in
-    header-laid (c .before .before .before .before .before .before .before .before .before .before .before .before .before .before .before .before .before .before .before .before .before .before .before .args .text .now) (omega (arith, c .before .before .before .before .before .before .before .before .before .before .before .before .before .before .before .before .before .before .before .before .if1 .left)) _ (found .0) (c .before .before .before .before .before .before .before .before .before .before .before .before .before .before .at .given .0 .0) (found .1) (c .before .before .before .before .before .before .before .before .before .before .before .before .if2 .left) _ _ _ _ lines
+    header-laid (c .before .before .before .before .before .before .before .before .before .before .before .before .before .before .before .before .before .before .before .before .before .before .before .args .text .now)
+    (omega (arith, c .before .before .before .before .before .before .before .before .before .before .before .before .before .before .before .before .before .before .before .before .if1 .left)) _ (found .0)
+    (c .before .before .before .before .before .before .before .before .before .before .before .before .before .before .at .given .0 .0) (found .1)
+    (c .before .before .before .before .before .before .before .before .before .before .before .before .if2 .left) _ _ _ _ lines
     (c .before .before .lay-header .ensures)
 
 pub lay-sheet-spec : {M : Type 1} → statement M
 lay-sheet-spec = tie.close
-    (tie.spec returns (λ c. search needs) (λ c. search needs) read-record-requires (λ c. search needs) (λ c. search needs) returns-2 (λ c. search needs) (λ c. search needs) (λ c. search needs) returns-3 (λ c κs. search needs) (λ c. search needs) (λ c. search needs) (λ c. search needs) returns-4 (λ c. search needs) lay-header-requires (λ c. search needs) returns-5)
+    (tie.spec returns (λ c. search needs) (λ c. search needs) read-record-requires (λ c. search needs) (λ c. search needs) returns-2 (λ c. search needs) (λ c. search needs) (λ c. search needs) returns-3 (λ c κs. search needs)
+    (λ c. search needs) (λ c. search needs) (λ c. search needs) returns-4 (λ c. search needs) lay-header-requires (λ c. search needs) returns-5)

@@ -1,5 +1,5 @@
 -- The sheet was laid, and has room or not; or there is none.
-use mathlib.Core.Path.{_≡_, refl, sym, ap, _∙_}
+use mathlib.Core.Path.{refl}
 use native.Mathlib.Omega.{arith}
 use borrow.Author.Needs.{needs}
 use Rattle.text.specs.Read.{sheetOfText}
@@ -28,7 +28,8 @@ returns c =
 returns-2 : tie.Need-returns-2
 unfolding sheetOfText
 returns-2 c =
-    all-cleared _ _ _ _ _ _ (rw (rw (c .before .before .before .before .enum-told .given .1) at (c .before .before .before .before .before .before .before .before .lay-sheet .ensures)) refl) (search needs) (c .before .before .refused .ensures)
+    all-cleared _ _ _ _ _ _ (rw (rw (c .before .before .before .before .enum-told .given .1) at (c .before .before .before .before .before .before .before .before .lay-sheet .ensures)) refl) (search needs)
+    (c .before .before .refused .ensures)
 
 pub sheet-from-text-spec : {M : Type 1} → statement M
 sheet-from-text-spec = tie.close

@@ -1,6 +1,5 @@
 -- Case by case.
 use borrow.Author.Tests.{eq-eqb, ne-eqb}
-use borrow.Author.Needs.{needs}
 use Rattle.text.specs.Binary.{usedReadings}
 use Rattle.text.proofs.words.used_readings.Statement.{statement}
 use Rattle.text.proofs.words.used_readings.Tie as tie

@@ -27,8 +27,17 @@ cast-word c = omega (arith, c .before .before .before .before .before .shared-sl
 
 add-next : tie.Need-add-next Inv-loop μ-loop
 add-next c =
-    let size : getD (c .before .before .before .before .before .before .before .before .before .before .before .args .sizes .now) (c .before .before .before .before .before .before .before .loop .i) 0 ≤ 255 = omega (arith, c .before .before .before .before .before .before .before .before .before .shared-slice-known .given (c .before .before .before .before .before .before .before .loop .i)) in
-    omega (arith, c .before .before .before .before .before .before .before .loop .inv .near, c .before .before .before .before .before .before .before .loop .inv .within, c .before .before .before .before .before .before .before .before .before .before .before .pre .near, c .before .before .before .before .before .before .before .before .before .before .before .pre .few, c .before .before .word .ensures .few, size)
+    let size : getD (c .before .before .before .before .before .before .before .before .before .before .before .args .sizes .now) (c .before .before .before .before .before .before .before .loop .i) 0 ≤ 255 = omega
+    (arith, c .before .before .before .before .before .before .before .before .before .shared-slice-known .given (c .before .before .before .before .before .before .before .loop .i)) in
+    omega (
+      arith,
+      c .before .before .before .before .before .before .before .loop .inv .near,
+      c .before .before .before .before .before .before .before .loop .inv .within,
+      c .before .before .before .before .before .before .before .before .before .before .before .pre .near,
+      c .before .before .before .before .before .before .before .before .before .before .before .pre .few,
+      c .before .before .word .ensures .few,
+      size,
+    )
 
 add-i : tie.Need-add-i Inv-loop μ-loop
 add-i c = omega (arith, c .before .before .before .before .before .before .loop-test .taken, c .before .before .before .before .before .before .before .before .before .before .before .pre .few)
@@ -38,7 +47,9 @@ loop-less c = omega (arith, c .before .before .before .before .before .before .l
 
 loop-again : tie.Need-loop-again Inv-loop μ-loop
 loop-again c =
-    words-step _ _ _ _ _ _ _ (c .before .before .before .before .before .before .before .loop .inv) (c .before .before .before .before .before .before .loop-test .taken) (c .before .before .before .before .before .before .before .before .before .before .before .pre .same) (omega (arith, c .before .before .before .before .before .before .before .before .before .shared-slice-known .given (c .before .before .before .before .before .before .before .loop .i))) _ _
+    words-step _ _ _ _ _ _ _ (c .before .before .before .before .before .before .before .loop .inv) (c .before .before .before .before .before .before .loop-test .taken)
+    (c .before .before .before .before .before .before .before .before .before .before .before .pre .same)
+    (omega (arith, c .before .before .before .before .before .before .before .before .before .shared-slice-known .given (c .before .before .before .before .before .before .before .loop .i))) _ _
     (c .before .before .word .ensures)
 
 same-length : tie.Need-same-length Inv-loop μ-loop

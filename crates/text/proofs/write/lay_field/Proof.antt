@@ -1,7 +1,6 @@
 -- With places or without.
 use native.Mathlib.Omega.{arith}
 use borrow.Author.Needs.{needs}
-use Rattle.numerals.proofs.LawLaid.{length-laid}
 use Rattle.text.proofs.write.lay_field.Statement.{statement}
 use Rattle.text.proofs.write.lay_field.Tie as tie
 

@@ -1,5 +1,5 @@
 -- The readings are taken, and the record has the line's numbers and these.
-use mathlib.Core.Path.{_≡_, sym, _∙_}
+use mathlib.Core.Path.{sym, _∙_}
 use native.Mathlib.Omega.{arith}
 use borrow.Author.Needs.{needs}
 use Rattle.text.proofs.LawTexts.{used-bad, used-most, line-put}
@@ -11,12 +11,15 @@ returns c = used-bad _ (sym (c .before .before .used-by .ensures) ∙ c .enum-to
 
 add-lay-record : tie.Need-add-lay-record
 add-lay-record c =
-    let few = used-most (c .before .before .before .before .before .before .before .before .args .line) _ _ _ _ (sym (c .before .before .before .before .before .before .used-by .ensures) ∙ c .before .before .before .before .used .given .1) in
+    let few = used-most (c .before .before .before .before .before .before .before .before .args .line) _ _ _ _
+    (sym (c .before .before .before .before .before .before .used-by .ensures) ∙ c .before .before .before .before .used .given .1) in
     omega (arith, few)
 
 returns-2 : tie.Need-returns-2
 returns-2 c =
-    line-put (c .before .before .before .before .before .before .before .before .before .before .before .args .line) _ _ _ _ _ _ _ _ (sym (c .before .before .before .before .before .before .before .before .before .used-by .ensures) ∙ c .before .before .before .before .before .before .before .used .given .1) (rw (c .before .before .before .before .before .kind-number .ensures) at (c .before .before .lay-record .ensures))
+    line-put (c .before .before .before .before .before .before .before .before .before .before .before .args .line) _ _ _ _ _ _ _ _
+    (sym (c .before .before .before .before .before .before .before .before .before .used-by .ensures) ∙ c .before .before .before .before .before .before .before .used .given .1)
+    (rw (c .before .before .before .before .before .kind-number .ensures) at (c .before .before .lay-record .ensures))
 
 pub lay-line-spec : {M : Type 1} → statement M
 lay-line-spec = tie.close

@@ -3,7 +3,6 @@ use Prim.Native.Nat.{_-_}
 use native.Mathlib.Omega.{arith}
 use lib.ListN.{length}
 use borrow.Author.Needs.{needs}
-use Rattle.text.specs.Written.{mostField}
 use Rattle.text.proofs.LawPut.{FieldsSoFar, fields-start, fields-size, fields-done, fields-step}
 use Rattle.text.proofs.write.lay_record.Statement.{statement}
 use Rattle.text.proofs.write.lay_record.Tie as tie
@@ -18,20 +17,36 @@ loop-holds : tie.Need-loop-holds Inv-loop μ-loop
 loop-holds c = fields-start _ _ _ _ _
 
 add-next : tie.Need-add-next Inv-loop μ-loop
-add-next c = omega (arith, c .before .before .before .before .before .before .before .before .before .pre, c .before .before .before .before .before .before .loop .inv .near, c .before .before .before .before .before .loop-test .taken, c .before .before .lay-field .ensures .few)
+add-next c =
+    omega (
+      arith,
+      c .before .before .before .before .before .before .before .before .before .pre,
+      c .before .before .before .before .before .before .loop .inv .near,
+      c .before .before .before .before .before .loop-test .taken,
+      c .before .before .lay-field .ensures .few,
+    )
 
 add-j : tie.Need-add-j Inv-loop μ-loop
 add-j c = omega (arith, c .before .before .before .before .before .before .before .before .before .pre, c .before .before .before .before .before .loop-test .taken)
 
 add-next-2 : tie.Need-add-next-2 Inv-loop μ-loop
-add-next-2 c = omega (arith, c .before .before .before .before .before .before .before .before .before .before .before .before .before .pre, c .before .before .before .before .before .before .before .before .before .before .loop .inv .near, c .before .before .before .before .before .before .before .before .before .loop-test .taken, c .before .before .before .before .before .before .lay-field .ensures .few, c .before .before .lay-separator .ensures .few)
+add-next-2 c =
+    omega (
+      arith,
+      c .before .before .before .before .before .before .before .before .before .before .before .before .before .pre,
+      c .before .before .before .before .before .before .before .before .before .before .loop .inv .near,
+      c .before .before .before .before .before .before .before .before .before .loop-test .taken,
+      c .before .before .before .before .before .before .lay-field .ensures .few,
+      c .before .before .lay-separator .ensures .few,
+    )
 
 loop-less : tie.Need-loop-less Inv-loop μ-loop
 loop-less c = omega (arith, c .before .before .before .before .before .before .before .before .before .loop-test .taken)
 
 loop-again : tie.Need-loop-again Inv-loop μ-loop
 loop-again c =
-    fields-step _ _ _ _ _ _ _ _ (c .before .before .before .before .before .before .before .before .before .before .loop .inv) (c .before .before .before .before .before .before .before .before .before .loop-test .taken) _ _ (c .before .before .before .before .before .before .lay-field .ensures) _ _ (c .before .before .lay-separator .ensures)
+    fields-step _ _ _ _ _ _ _ _ (c .before .before .before .before .before .before .before .before .before .before .loop .inv) (c .before .before .before .before .before .before .before .before .before .loop-test .taken) _ _
+    (c .before .before .before .before .before .before .lay-field .ensures) _ _ (c .before .before .lay-separator .ensures)
 
 same-length : tie.Need-same-length Inv-loop μ-loop
 same-length c = fields-size _ _ _ _ _ _ _ _ (c .before .loop .inv)

@@ -1,5 +1,5 @@
 -- A sheet that is not right is refused first.
-use mathlib.Core.Path.{_≡_, refl, sym, _∙_}
+use mathlib.Core.Path.{refl, sym, _∙_}
 use borrow.Author.Needs.{needs}
 use Rattle.text.proofs.LawConvert.{all-cleared}
 use Rattle.text.proofs.LawSheetText.{wrong-sheet}
@@ -13,7 +13,10 @@ returns : tie.Need-returns
 returns c = c .before .before .text-from-right .ensures
 
 returns-2 : tie.Need-returns-2
-returns-2 c = all-cleared _ _ _ _ _ _ (wrong-sheet (c .before .before .before .before .before .before .before .before .args .sheet .now) (sym (c .before .before .before .before .before .sheet-ok .ensures) ∙ c .before .before .before .before .if1 .left)) refl (c .before .before .refused .ensures)
+returns-2 c =
+    all-cleared _ _ _ _ _ _
+    (wrong-sheet (c .before .before .before .before .before .before .before .before .args .sheet .now) (sym (c .before .before .before .before .before .sheet-ok .ensures) ∙ c .before .before .before .before .if1 .left)) refl
+    (c .before .before .refused .ensures)
 
 pub text-from-sheet-spec : {M : Type 1} → statement M
 text-from-sheet-spec = tie.close

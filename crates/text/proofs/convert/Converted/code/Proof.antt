@@ -1,6 +1,5 @@
 -- By cases on the answer.
 use borrow.Author.Needs.{needs}
-use Rattle.text.specs.Convert.{convertedCode}
 use Rattle.text.proofs.convert.Converted.code.Statement.{statement}
 use Rattle.text.proofs.convert.Converted.code.Tie as tie
 

@@ -26,14 +26,27 @@ aCode = 65_535
 abbrev pub anAmount : ℕ
 anAmount = 18_446_744_073_709_551_615
 
--- medium, pollutant, shown unit; none of them is 0
+-- of the u8 and the u32 those numbers that a right sheet has; which of them may be 0 is said below
+abbrev pub aMedium : ℕ
+aMedium = 3
+
+abbrev pub aPollutant : ℕ
+aPollutant = 255
+
+abbrev pub aUnit : ℕ
+aUnit = 3
+
+abbrev pub aKind : ℕ
+aKind = 3
+
+-- medium, pollutant, shown unit
 abbrev pub headerFields : List ℕ
-headerFields = 3 ∷ 255 ∷ 3 ∷ []
+headerFields = aMedium ∷ aPollutant ∷ aUnit ∷ []
 
 -- industry, product, material, process, scale, technique, reuse, kind, product kg, material kg, a, b, c
 abbrev pub lineFields : List ℕ
 lineFields =
-    aCode ∷ aCode ∷ aCode ∷ aCode ∷ aCode ∷ aCode ∷ aCode ∷ 3 ∷ anAmount ∷ anAmount ∷ aReading ∷ aReading ∷ aReading ∷ []
+    aCode ∷ aCode ∷ aCode ∷ aCode ∷ aCode ∷ aCode ∷ aCode ∷ aKind ∷ anAmount ∷ anAmount ∷ aReading ∷ aReading ∷ aReading ∷ []
 
 -- the number of a field; of a reading its thousandths
 unfoldable pub fieldNumber : (takes : ℕ) (field : List ℕ) → Typed

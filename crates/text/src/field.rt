@@ -12,6 +12,18 @@ use records::field::content;
 use records::field::field_end;
 use records::field::what_follows;
 
+// The fields of a line's record, and of these the technique, the kind and the first reading, counted from 0.
+pub(crate) const LINE_FIELDS: usize = 13;
+
+pub(crate) const TECHNIQUE: usize = 5;
+
+pub(crate) const KIND: usize = 7;
+
+pub(crate) const FIRST_READING: usize = 10;
+
+// The fields of the header's record.
+pub(crate) const HEADER_FIELDS: usize = 3;
+
 // What stands for a reading in a list of the largest numbers that fields take.
 pub(crate) const A_READING: u64 = 0;
 

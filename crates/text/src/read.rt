@@ -6,6 +6,8 @@ use super::convert::Converted;
 use super::convert::finished;
 use super::convert::refused;
 use super::field::A_READING;
+use super::field::HEADER_FIELDS;
+use super::field::LINE_FIELDS;
 use super::field::RecordRead;
 use super::field::read_record;
 use super::words::lay_header;
@@ -20,10 +22,18 @@ use headers::sheet::MOST_LINES;
 // The bytes of a sheet that is read from a text, at most.
 pub const MOST_SHEET: usize = HEADER_SIZE + LINE_SIZE * MOST_LINES;
 
-// The largest u16 and u64.
+// The largest numbers that the fields take: a u16, a u64, and what a right sheet has of the others.
 const A_CODE: u64 = 65535;
 
 const AN_AMOUNT: u64 = 18_446_744_073_709_551_615;
+
+const A_MEDIUM: u64 = 3;
+
+const A_POLLUTANT: u64 = 255;
+
+const A_UNIT: u64 = 3;
+
+const A_KIND: u64 = 3;
 
 // How many lines were laid; or the text is malformed.
 enum LinesRead {
@@ -43,14 +53,14 @@ fn lay_lines(text: &[u8], at: usize, sheet: &mut [u8]) -> LinesRead
         A_CODE,
         A_CODE,
         A_CODE,
-        3,
+        A_KIND,
         AN_AMOUNT,
         AN_AMOUNT,
         A_READING,
         A_READING,
         A_READING,
     ];
-    let mut numbers = [0u64; 13];
+    let mut numbers = [0u64; LINE_FIELDS];
     let mut next = at;
     let mut lines = 0;
     while next < text.len() {
@@ -74,8 +84,8 @@ fn lay_sheet(text: &[u8], sheet: &mut [u8]) -> LinesRead
     if MOST_BYTES < text.len() {
         return LinesRead::Broken;
     }
-    let takes = [3u64, 255, 3];
-    let mut header = [0u64; 3];
+    let takes = [A_MEDIUM, A_POLLUTANT, A_UNIT];
+    let mut header = [0u64; HEADER_FIELDS];
     let RecordRead::Next(at) = read_record(text, 0, &takes, &mut header) else {
         return LinesRead::Broken;
     };

@@ -6,6 +6,9 @@ ghost use Rattle.headers.specs.Sheet.{mostLines};
 ghost use Rattle.numerals.specs.Laid.{laid};
 ghost use Rattle.text.specs.Binary.{usedReadings, readingBits, wordsOf, lineBytes, headerSizes, headerWords, sheetSize};
 ghost use Rattle.text.specs.Inner.{Wordable};
+use super::field::FIRST_READING;
+use super::field::KIND;
+use super::field::TECHNIQUE;
 use amounts::reading::bits_of_parts;
 use headers::sheet::HEADER_SIZE;
 use headers::sheet::LINE_SIZE;
@@ -42,8 +45,8 @@ fn reading_bits(numbers: &[u64], r: usize) -> u64
     requires { ⌜ (length (now numbers) ≡ 13) × (r < 3) ⌝ }
     ensures { λ bits. ⌜ bits ≡ readingBits (now (numbers .entry)) r ⌝ }
 {
-    if r < used_readings(numbers[5], numbers[7]) {
-        bits_of_parts(numbers[10 + r])
+    if r < used_readings(numbers[TECHNIQUE], numbers[KIND]) {
+        bits_of_parts(numbers[FIRST_READING + r])
     } else {
         0
     }

@@ -12,6 +12,9 @@ ghost use Rattle.text.specs.Inner.{reach, fieldText, separatorText, text
 use super::convert::Converted;
 use super::convert::finished;
 use super::convert::refused;
+use super::field::FIRST_READING;
+use super::field::HEADER_FIELDS;
+use super::field::LINE_FIELDS;
 use super::line::Readings;
 use super::line::kind_number;
 use super::line::used_by;
@@ -30,13 +33,6 @@ use numerals::bytes::lay;
 use numerals::number::MOST_DECIMAL;
 use numerals::number::decimal;
 use numerals::number::thousandths;
-
-// The fields of the header and of a line, and which of these is a.
-const HEADER_FIELDS: usize = 3;
-
-const LINE_FIELDS: usize = 13;
-
-const FIRST_READING: usize = 10;
 
 // The bytes of a field and of what follows it, at most.
 const MOST_FIELD: usize = MOST_DECIMAL + 2;

@@ -168,13 +168,13 @@ uint64_t checkraven_report(const uint8_t *book, size_t book_len,
  * order of the binary ones: industry, product, material, process, scale,
  * technique, reuse, kind, product in kilograms, material in kilograms, the
  * readings a, b and c.
- *   numeral: 1 to 20 digits, a number that fits the binary field; no sign, no
- *            space.
+ *   numeral: 1 to 20 digits, a number that fits the binary field; leading
+ *            zeros are fine, no sign, no space.
  *   reading: 1 to 11 digits, with or without a point and 1 to 3 more.
  *
- * The answer is the number of bytes written, 16 + 64 * lines. The sheet then
- * begins with them: its lines start at 16, and it ends with them. Further bytes
- * keep their values. A reading of t thousandths is the double t / 1000.0; one
+ * The answer is the number of bytes written, 16 + 64 * lines, below 65536. The
+ * sheet then begins with them: its lines start at 16, and it ends with them.
+ * Further bytes keep their values. A reading of t thousandths is the double t / 1000.0; one
  * that the kind doesn't use, and each one with technique 0, is 0.0 whichever
  * reading was read.
  *

@@ -1,7 +1,7 @@
 //! The example folders: each expected output stands beside both desks.
 
 use checkraven::Outcome;
-use peer::compare::{run_proved, BundleCase, Case, Filled, Tally};
+use peer::compare::{run_proved, BundleCase, Case, Filled, Tally, TextCase};
 use peer::demand3;
 use peer::print::whole_output;
 use std::fs;
@@ -58,6 +58,21 @@ fn every_example_of_a_sheet() {
         tally.agree(&case);
         let filled = run_proved(&case).expect("the memory around is kept");
         check(&case, &filled, &expected_text(&folder), &folder);
+    }
+}
+
+/// A text has the expected output of its folder too, also where it is the only
+/// sheet there.
+#[test]
+fn every_example_of_a_text() {
+    let mut tally = Tally::new("every_example_of_a_text");
+    let folders = folders_with("sheet.csv");
+    assert!(folders.len() > folders_with("sheet.bin").len(), "one sheet is a text alone");
+    for folder in folders {
+        let text = TextCase::read(&folder).expect("the example has both files");
+        tally.agree(&text);
+        let filled = text.run_proved().expect("the memory around is kept");
+        check(&text.with_binary_sheet(), &filled, &expected_text(&folder), &folder);
     }
 }
 

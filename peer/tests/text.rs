@@ -312,6 +312,7 @@ fn the_longest_texts_and_sheets() {
     };
     let writing = Conversion::write(&Sheet::new(3, 255, 3, vec![line; 128]).bytes());
     let need = bytes_needed(&writing);
+    assert_eq!(need, 15_241, "no written text is longer");
     assert!(need <= MOST_SHEET_TEXT);
     let reading = Conversion::read(writing.run_plain().bytes());
     for (conversion, need) in [(writing, need), (reading, MOST_SHEET)] {

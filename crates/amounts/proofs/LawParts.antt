@@ -160,7 +160,3 @@ parts-back most t h l =
 pub parts-fit : (t : ℕ) → partsBits t < 2 ^ 64
 unfolding partsBits ofParts
 parts-fit t = toBits-lt binary64 (ofParts t) (div-fits binary64 _ _)
-
-pub no-parts : partsBits 0 ≡ 0
-unfolding partsBits ofParts ofInt div round toBits
-no-parts = refl

@@ -17,7 +17,7 @@ file-some SheetMalformed = omega arith
 file-some TextMalformed = omega arith
 file-some ResultTooShort = omega arith
 
-line-some : (k : LineFault) → 1 ≤ lineRule k
+pub line-some : (k : LineFault) → 1 ≤ lineRule k
 line-some line.ActivityTooLarge = omega arith
 line-some line.ReuseTooLarge = omega arith
 line-some line.NoRow = omega arith

@@ -3,6 +3,7 @@
 use answers::answer::Outcome;
 use headers::house::MOST_BYTES;
 use libc::EEXIST;
+use libc::STDERR_FILENO;
 use libc::STDOUT_FILENO;
 use little::part::part;
 use numerals::bytes::lay;
@@ -29,8 +30,12 @@ fn load(name: &[u8], room: &mut [u8]) -> usize {
     bytes
 }
 
+// A word on standard error where the answer could not be written.
 fn print(text: &[u8]) {
-    io::write_all(STDOUT_FILENO, text);
+    if io::write_all(STDOUT_FILENO, text) {
+        return;
+    }
+    io::write_all(STDERR_FILENO, b"convert: the answer could not be written\n");
 }
 
 fn print_refusal(refusal: Outcome) {

@@ -17,7 +17,8 @@ use Rattle.search.proofs.LawFirst.{first-start, first-rest, first-here}
 use Rattle.search.specs.First.{first}
 use Rattle.search.specs.declared.found.Found.the-variants.{At, Nothing}
 use Rattle.numerals.specs.Numeral.{mostDigits, zeroDigit, digit, significant, numeral, valueOf, point, thousand, decimalNumeral}
-use Rattle.numerals.specs.Typed.{nineDigit, isDigit, allDigits, allDecimal, isNumeral, numberIn, places, wholeDigits, mostWhole, mostPlaces, isPointAt, pointIn, wholeIn, placesIn, decimalIn}
+use Rattle.numerals.specs.Typed.{nineDigit, isDigit, allDigits, isNumeral, numberIn, places, wholeDigits, mostWhole, mostPlaces, isPointAt, pointIn, wholeIn, placesIn, decimalIn}
+use Rattle.numerals.specs.Inner.{allDecimal}
 use Rattle.numerals.specs.declared.typed.Typed.the-variants.{Is}
 use Rattle.numerals.proofs.LawNumeral.{significant-few}
 use Rattle.numerals.proofs.LawValue.{numeral-value}
@@ -41,11 +42,11 @@ significant-digits (suc most) n =
     either-way (eqb n 0) (λ e. rw e)
     (λ e. rw e (all-joined (significant most (n / 10)) (digit n ∷ []) (significant-digits most (n / 10)) (rw (digit-is n))))
 
-pub numeral-digits : (n : ℕ) → allDigits (numeral n) ≡ true
+numeral-digits : (n : ℕ) → allDigits (numeral n) ≡ true
 unfolding numeral allDigits
 numeral-digits n = either-way (eqb n 0) (λ e. rw e) (λ e. rw e (significant-digits mostDigits n))
 
-pub digits-decimal : (bytes rest : List ℕ) → allDigits bytes ≡ true → allDecimal rest ≡ true → allDecimal (bytes ++ rest) ≡ true
+digits-decimal : (bytes rest : List ℕ) → allDigits bytes ≡ true → allDecimal rest ≡ true → allDecimal (bytes ++ rest) ≡ true
 unfolding allDigits allDecimal
 digits-decimal [] rest p q = q
 digits-decimal (b ∷ bytes) rest p q =
@@ -77,11 +78,11 @@ significant-some : (most n : ℕ) → eqb n 0 ≡ false → 1 ≤ length (signif
 unfolding significant
 significant-some most n e = rw (e, length-append) (omega arith)
 
-pub numeral-some : (n : ℕ) → 1 ≤ length (numeral n)
+numeral-some : (n : ℕ) → 1 ≤ length (numeral n)
 unfolding numeral
 numeral-some n = either-way (eqb n 0) (λ e. rw e (omega arith)) (λ e. rw e (significant-some 19 n e))
 
-pub numeral-short : (digits n : ℕ) → n < 10 ^ digits → 1 ≤ digits → length (numeral n) ≤ digits
+numeral-short : (digits n : ℕ) → n < 10 ^ digits → 1 ≤ digits → length (numeral n) ≤ digits
 unfolding numeral
 numeral-short digits n h some = either-way (eqb n 0) (λ e. rw e some) (λ e. rw e (significant-short mostDigits digits n h))
 
@@ -124,7 +125,7 @@ numeral-leads n h e =
 
 -- ---- its number
 
-pub short-back : (digits most n : ℕ) → n ≤ most → n < 10 ^ mostDigits → length (numeral n) ≤ digits → numberIn digits most (numeral n) ≡ Is n
+short-back : (digits most n : ℕ) → n ≤ most → n < 10 ^ mostDigits → length (numeral n) ≤ digits → numberIn digits most (numeral n) ≡ Is n
 unfolding numberIn isNumeral every
 short-back digits most n within fits few =
     rw (numeral-value n fits, le-leb 1 (length (numeral n)) (numeral-some n), le-leb (length (numeral n)) digits few, numeral-digits n, le-leb n most within)

@@ -90,20 +90,3 @@ module _ (bytes : List ℕ) where
     pub decimal-parts : decimalIn bytes ≡ joined (wholeIn (take i bytes)) (placesIn (drop (i + 1) bytes))
     unfolding decimalIn
     decimal-parts = rw e
-
-joined-most : (whole part : Typed) → AtMost mostWhole whole → AtMost mostPlaces part → AtMost (mostWhole * thousand + mostPlaces) (joined whole part)
-joined-most (Is n) (Is p) a b t e =
-    let same : n * thousand + p ≡ t = cc in
-    omega (arith, a n refl, b p refl)
-joined-most (Is n) Malformed a b t e = clash (cc)
-joined-most Malformed part a b t e = clash (cc)
-
-pub decimal-most : (bytes : List ℕ) (t : ℕ) → decimalIn bytes ≡ Is t → t < 10 ^ 14
-decimal-most bytes t h = go (pointIn bytes) refl
-  where
-    at-most : AtMost (mostWhole * thousand + mostPlaces) (decimalIn bytes) → t < 10 ^ 14
-    at-most most = omega (arith, most t h)
-
-    go : (place : Found) → pointIn bytes ≡ place → t < 10 ^ 14
-    go Nothing e = at-most (rw (decimal-whole bytes e) (joined-most _ _ (number-most _ _ _) (none-most mostPlaces)))
-    go (At i) e = at-most (rw (decimal-parts bytes i e) (joined-most _ _ (number-most _ _ _) (places-most _)))

@@ -13,12 +13,6 @@ unfolding word
 length-word zero n = refl
 length-word (suc size) n = ap suc (length-word size (n / byteRange))
 
-pub word-bytes : (size n k : ℕ) → byteAt (word size n) k < byteRange
-unfolding word
-word-bytes zero n k = omega arith
-word-bytes (suc size) n zero = omega arith
-word-bytes (suc size) n (suc k) = word-bytes size (n / byteRange) k
-
 -- ---- a loop that lays one byte after the other: i of them are laid, and `rest` is the number of the others
 
 pub word-step : (at size i rest : ℕ) (bytes : List ℕ) → i < size

@@ -1,12 +1,12 @@
--- What a private function answers, beside what a promise says. Nothing here is needed to read a promise. Assumes nothing.
+-- What private functions and laws use, beside what a promise says. Nothing here is needed to read a promise. Assumes nothing.
 use Prim.Native.Nat.{ℕ, _≤_}
 use mathlib.Core.Path.{_≡_}
-use mathlib.Core.Bool.{cond, _&&_}
-use mathlib.Core.List.{List}
-use lib.Dec.{leb}
+use mathlib.Core.Bool.{Bool, true, cond, _&&_, _||_}
+use mathlib.Core.List.{List, [], _∷_}
+use lib.Dec.{leb, eqb}
 use lib.ListN.{length, drop}
-use Rattle.numerals.specs.Numeral.{mostDigits, valueOf}
-use Rattle.numerals.specs.Typed.{allDigits}
+use Rattle.numerals.specs.Numeral.{mostDigits, point, valueOf}
+use Rattle.numerals.specs.Typed.{isDigit, allDigits}
 use Rattle.numerals.specs.declared.typed.Typed.{Typed}
 use Rattle.numerals.specs.declared.typed.Typed.the-variants.{Is, Malformed}
 
@@ -23,3 +23,11 @@ onward most so-far bytes = cond (allDigits bytes && leb (valueOf so-far bytes) m
 -- a number, if it is one, is at most so large
 abbrev pub AtMost : (most : ℕ) (typed : Typed) → Type 0
 AtMost most typed = (n : ℕ) → typed ≡ Is n → n ≤ most
+
+-- the bytes of a decimal numeral
+abbrev pub digitOrPoint : (byte : ℕ) → Bool
+digitOrPoint byte = isDigit byte || eqb byte point
+
+unfoldable pub allDecimal : List ℕ → Bool
+allDecimal [] = true
+allDecimal (b ∷ bytes) = digitOrPoint b && allDecimal bytes

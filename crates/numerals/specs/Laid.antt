@@ -1,5 +1,5 @@
 -- Bytes laid into a text at a place. Assumes nothing.
-use Prim.Native.Nat.{ℕ, _≤_}
+use Prim.Native.Nat.{ℕ, _+_, _≤_}
 use mathlib.Core.Path.{_≡_}
 use mathlib.Core.List.{List}
 use lib.ListN.{length}
@@ -13,4 +13,16 @@ laid at bytes text = sets text at bytes
 pub record Lays (bytes : List ℕ) (most at : ℕ) (text : List ℕ) (r : ℕ) (text' : List ℕ) : Type 0 where
   pub counts : r ≡ length bytes
   pub few : r ≤ most
+  pub holds : text' ≡ laid at bytes text
+
+-- ---- bytes put one after the other, in places that are not far
+
+-- places lie below this
+abbrev pub reach : ℕ
+reach = 4_294_967_296
+
+-- r is the place where these bytes end, of which there are at most so many, and the text afterwards has them laid into it
+pub record Puts (bytes : List ℕ) (most at : ℕ) (text : List ℕ) (r : ℕ) (text' : List ℕ) : Type 0 where
+  pub ends : r ≡ at + length bytes
+  pub few : length bytes ≤ most
   pub holds : text' ≡ laid at bytes text

@@ -23,14 +23,6 @@ unfoldable pub allDigits : List ℕ → Bool
 allDigits [] = true
 allDigits (b ∷ bytes) = isDigit b && allDigits bytes
 
--- the bytes of a decimal numeral
-abbrev pub digitOrPoint : (byte : ℕ) → Bool
-digitOrPoint byte = isDigit byte || eqb byte point
-
-unfoldable pub allDecimal : List ℕ → Bool
-allDecimal [] = true
-allDecimal (b ∷ bytes) = digitOrPoint b && allDecimal bytes
-
 -- 1 to so many digits, leading zeros among them, and a number of at most `most`; no sign, no space, nothing else
 unfoldable pub isNumeral : (digits most : ℕ) (bytes : List ℕ) → Bool
 isNumeral digits most bytes =

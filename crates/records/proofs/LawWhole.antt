@@ -8,7 +8,7 @@ use borrow.Author.Tests.{not-true}
 use Rattle.search.specs.Test.{every}
 use Rattle.search.proofs.LawTest.{and-left, and-right, every-at}
 use Rattle.records.specs.Records.{comma, quote, carriageReturn, lineFeed, Pieces, recordIn, onto, pieces, isQuoted, contentOf}
-use Rattle.records.specs.Plain.{isPlain, allPlain}
+use Rattle.records.specs.Inner.{isPlain, allPlain}
 use Rattle.records.proofs.LawField.{after-comma, after-line-end}
 
 no-quote : (b : ℕ) → isPlain b ≡ true → eqb b quote ≡ false

@@ -1,3 +1,3 @@
 pub mod Records
 pub mod Follow
-pub mod Plain
+pub mod Inner

@@ -3,7 +3,8 @@ ghost use mathlib.Core.Path.{_≡_};
 ghost use Prim.Native.Nat.{_<_};
 ghost use lib.ListN.{length};
 ghost use Rattle.records.specs.Records.{turned, isQuoted, contentOf, fieldEnd};
-ghost use Rattle.records.specs.Follow.{endsField, behind};
+ghost use Rattle.records.specs.Follow.{behind};
+ghost use Rattle.records.specs.Inner.{endsField};
 use little::part::part;
 use little::read::byte_at;
 

@@ -6,10 +6,9 @@ use native.Mathlib.Nat.{mul-suc}
 use native.Mathlib.Numerals.{add-one}
 use native.Mathlib.Omega.{arith}
 use lib.ListN.{length-append}
-use Rattle.numerals.specs.Laid.{Lays}
+use Rattle.numerals.specs.Laid.{Lays, Puts}
 use Rattle.numerals.proofs.LawLaid.{laid-none, laid-more}
 use Rattle.report.specs.Report.{mostRow, numberText, rowText, linesText}
-use Rattle.report.specs.Inner.{Puts}
 
 -- bytes that were laid at a place, and counted from it on
 pub from-place : {bytes text text' : List ℕ} {most at r : ℕ} → Lays bytes most at text r text' → Puts bytes most at text (at + r) text'

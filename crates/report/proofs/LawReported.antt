@@ -14,7 +14,8 @@ use Rattle.search.proofs.LawTest.{clash, either-way}
 use Rattle.report.specs.declared.Written.{Written}
 use Rattle.report.specs.declared.Written.the-variants.{Bytes, Short}
 use Rattle.report.specs.Report.{writtenOf, textAfter, Wrote}
-use Rattle.report.specs.Inner.{Puts, Finished}
+use Rattle.report.specs.Inner.{Finished}
+use Rattle.numerals.specs.Laid.{Puts}
 
 pub wrote-once : (report : List ℕ) (most : ℕ) (text : List ℕ) (r q : Written) (x y : List ℕ) → Wrote report most text r x
     → Wrote report most text q y → (r ≡ q) × (x ≡ y)

@@ -14,7 +14,7 @@ use Rattle.headers.specs.Sheet.{lineCount, mostLines}
 use Rattle.headers.specs.Unit.{unitOfSheet}
 use Rattle.desk.specs.Cells.{tableSize}
 use Rattle.desk.specs.Works.{Results, runOf}
-use Rattle.numerals.specs.Laid.{laid}
+use Rattle.numerals.specs.Laid.{laid, reach}
 use Rattle.report.specs.declared.Written.{Written}
 use Rattle.report.specs.Report.{exactWord, refusedWord, lineWord, lineEnd, mostNumber, mostText}
 use Rattle.report.specs.Report.{figuresText, refusalText, writtenOf}
@@ -24,10 +24,6 @@ use Rattle.report.specs.Bundle.{sheetLine, mostSheetText}
 abbrev pub counted : ℕ
 counted = u16Range
 
--- places lie below this
-abbrev pub reach : ℕ
-reach = 4_294_967_296
-
 -- the letters of a table's name
 abbrev pub nameSize : ℕ
 nameSize = length exactWord
@@ -35,12 +31,6 @@ nameSize = length exactWord
 -- bytes of a refusal, at most
 abbrev pub mostRefusal : ℕ
 mostRefusal = length refusedWord + mostNumber + length lineWord + mostNumber + length lineEnd
-
--- r is the place where these bytes end, of which there are at most so many, and the text afterwards has them laid into it
-pub record Puts (bytes : List ℕ) (most at : ℕ) (text : List ℕ) (r : ℕ) (text' : List ℕ) : Type 0 where
-  pub ends : r ≡ at + length bytes
-  pub few : length bytes ≤ most
-  pub holds : text' ≡ laid at bytes text
 
 -- r says whether a text that ends there has room; where it has none, every byte is cleared
 pub record Finished (end : ℕ) (text : List ℕ) (r : Written) (text' : List ℕ) : Type 0 where

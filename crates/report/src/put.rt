@@ -3,7 +3,7 @@
 ghost use Prim.Native.Nat.{_+_, _≤_};
 ghost use lib.ListN.{length};
 ghost use Rattle.report.specs.Report.{mostNumber, numberText};
-ghost use Rattle.report.specs.Inner.{reach, Puts};
+ghost use Rattle.numerals.specs.Laid.{reach, Puts};
 use numerals::bytes::lay;
 use numerals::number::MOST_DIGITS;
 use numerals::number::decimal;

@@ -17,7 +17,7 @@ use Rattle.numerals.specs.Laid.{laid}
 use Rattle.numerals.specs.Typed.{isNumeral, numberIn}
 use Rattle.numerals.proofs.LawLaid.{laid-more, laid-none, laid-before, length-laid}
 use Rattle.records.specs.Records.{pieces, recordIn, recordsOf, isQuoted, contentOf}
-use Rattle.records.specs.Follow.{following}
+use Rattle.records.specs.Inner.{following}
 use Rattle.records.proofs.LawField.{some-records, no-records}
 use Rattle.text.specs.Typed.{headerFields, lineFields, fieldNumber, numbersIn, before, linesIn, fewLines, noneZero, sheetTyped, sheetIn, typedSheet}
 use Rattle.text.specs.Binary.{lineBytes, linesBytes, sheetSize, headerSizes, headerWords, wordsOf, binarySheet}

@@ -1,4 +1,4 @@
--- A record laid field by field, and the records of the lines one after the other.
+-- A record laid field by field: what is still to be laid, laid where it begins, makes what all of it makes.
 use Prim.Native.Nat.{ℕ, _+_, _*_, _≤_, _<_}
 use mathlib.Core.Path.{_≡_, refl, sym, ap, _∙_}
 use mathlib.Core.Bool.{_&&_}
@@ -11,11 +11,11 @@ use lib.ListN.{length, drop, getD, drop-of-length-le, length-append}
 use lib.Seq.{drop-cons}
 use borrow.Author.Tests.{eqb-true, eqb-false}
 use Rattle.search.proofs.LawTest.{either-way}
-use Rattle.numerals.specs.Laid.{laid, Lays}
+use Rattle.numerals.specs.Laid.{laid, Lays, Puts}
 use Rattle.numerals.specs.Numeral.{mostDecimal}
 use Rattle.numerals.proofs.LawLaid.{laid-more, laid-none, length-laid}
 use Rattle.text.specs.Written.{mostField, mostRecord, separator, recordText}
-use Rattle.text.specs.Inner.{fieldText, separatorText, textsFrom, Puts}
+use Rattle.text.specs.Inner.{fieldText, separatorText, textsFrom}
 
 -- ---- a record
 

@@ -9,11 +9,12 @@ use borrow.Author.Tests.{eqb-true, ne-eqb}
 use Rattle.search.specs.Test.{every}
 use Rattle.search.proofs.LawTest.{either-way, and-left, and-right}
 use Rattle.numerals.specs.Numeral.{point, mostDecimal, thousand, numeral, decimalNumeral}
-use Rattle.numerals.specs.Typed.{isDigit, digitOrPoint, allDecimal}
+use Rattle.numerals.specs.Typed.{isDigit}
+use Rattle.numerals.specs.Inner.{digitOrPoint, allDecimal}
 use Rattle.numerals.proofs.LawTyped.{digit-low}
 use Rattle.numerals.proofs.LawBack.{numeral-bytes, decimal-bytes, numeral-few}
 use Rattle.records.specs.Records.{comma, quote, carriageReturn, lineFeed, recordIn, pieces, ended, recordsOf}
-use Rattle.records.specs.Plain.{isPlain, allPlain}
+use Rattle.records.specs.Inner.{isPlain, allPlain}
 use Rattle.records.proofs.LawWhole.{field-before-comma, field-before-line-end}
 use Rattle.text.specs.Written.{recordEnd, separator, recordText, mostRecord, readingTexts}
 

@@ -39,6 +39,7 @@ use Rattle.text.specs.Written.{readingsOf, usedOf, ahead, allTaken, line
 use Rattle.text.specs.Declare.{DeclaredText}
 use Rattle.text.specs.Inner.{padded, lineNumbers, takenNumbers, linesNumbers, sheetNumbers}
 use Rattle.text.specs.Round.{AccountsAlike, ReadAgain}
+use Rattle.text.proofs.LawUsed.{taken-first}
 use Rattle.text.proofs.LawBinary.{readingSaid, lineSaid, NumbersFit, headerSaid, binary-header, binary-line-said, binary-right}
 use Rattle.text.proofs.LawMade.{typed-fits}
 use Rattle.text.proofs.LawBack.{line-given, sheet-given, lines-count, written-read}
@@ -49,18 +50,6 @@ use Rattle.text.proofs.LawBack.{line-given, sheet-given, lines-count, w
 taken-again : (most : ℕ) → most < 2 ^ 32 → (x : Float) (t : ℕ) → takenOf partsPerUnit most x ≡ Is t
     → takenOf partsPerUnit most x ≡ takenOf partsPerUnit most (ofBits binary64 (partsBits t))
 taken-again most few x t e = e ∙ sym (parts-back most t few (taken-most partsPerUnit most t x e))
-
--- where all are taken the first is, and the others are
-taken-first : {P : Type 0} (first : Taken) (others : List Taken) (ts : List ℕ) → allTaken (first ∷ others) ≡ some ts
-    → ((t : ℕ) (rest : List ℕ) → first ≡ Is t → allTaken others ≡ some rest → t ∷ rest ≡ ts → P) → P
-unfolding allTaken
-taken-first Over others ts h then = clash (cc)
-taken-first Bad others ts h then = clash (cc)
-taken-first {P} (Is t) others ts h then = go (allTaken others) refl h
-  where
-    go : (o : Option (List ℕ)) → allTaken others ≡ o → ahead t o ≡ some ts → P
-    go none e h = clash (cc)
-    go (some rest) e h = then t rest refl e (cc)
 
 taken-last : {P : Type 0} (last : Taken) (ts : List ℕ) → allTaken (last ∷ []) ≡ some ts → ((t : ℕ) → last ≡ Is t → t ∷ [] ≡ ts → P) → P
 unfolding allTaken

@@ -9,13 +9,13 @@ use Rattle.headers.specs.Sheet.{sheetHeader}
 use Rattle.answers.specs.declared.answer.FileFault.the-variants.{SheetMalformed}
 use Rattle.answers.specs.declared.answer.LineFault.the-variants.{BadReading}
 use Rattle.answers.specs.declared.answer.Outcome.the-variants.{RefusedFile, RefusedLine}
-use Rattle.numerals.specs.Laid.{laid}
+use Rattle.numerals.specs.Laid.{laid, Puts}
 use Rattle.numerals.proofs.LawLaid.{laid-more}
 use Rattle.desk.specs.Sheet.{sheetOk}
 use Rattle.headers.specs.Sheet.{lineCount}
 use Rattle.text.specs.Convert.{Gives, Refuses}
 use Rattle.text.specs.Written.{mostRecord, recordText, linesFrom, headerTexts, linesText, textOfSheet}
-use Rattle.text.specs.Inner.{textsFrom, Puts, LinesPut}
+use Rattle.text.specs.Inner.{textsFrom, LinesPut}
 
 module _ (s : List ℕ) where
   pub wrong-sheet : sheetOk s ≡ false → textOfSheet s ≡ Refuses (RefusedFile SheetMalformed)

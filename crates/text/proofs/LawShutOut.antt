@@ -13,7 +13,7 @@ use Rattle.search.specs.First.{first}
 use Rattle.search.proofs.LawTest.{either-way, clash}
 use Rattle.headers.specs.House.{mostBytes}
 use Rattle.headers.specs.Sheet.{lineCount}
-use Rattle.numerals.specs.Numeral.{valueOf}
+use Rattle.numerals.specs.Numeral.{numeral, valueOf}
 use Rattle.numerals.specs.Typed.{allDigits, isNumeral, numberIn, pointIn, placesIn, decimalIn}
 use Rattle.numerals.specs.Word.{word}
 use Rattle.numerals.specs.declared.typed.Typed.{Typed}
@@ -24,6 +24,7 @@ use Rattle.answers.specs.declared.answer.FileFault.the-variants.{BookMalformed,
 use Rattle.answers.specs.declared.answer.LineFault.the-variants.{BadReading}
 use Rattle.answers.specs.declared.answer.Outcome.{Outcome}
 use Rattle.answers.specs.declared.answer.Outcome.the-variants.{Accepted, RefusedFile, RefusedLine}
+use Rattle.shares.specs.declared.share.Reading.the-variants.{None, Throughout}
 use Rattle.desk.specs.Book.{bookOk}
 use Rattle.desk.specs.Sheet.{sheetOk}
 use Rattle.desk.specs.Line.{lineOf}
@@ -36,11 +37,11 @@ use Rattle.desk.specs.declared.account.LineOutcome.{LineOutcome}
 use Rattle.desk.specs.declared.account.LineOutcome.the-variants.{Given, Refusal}
 use Rattle.text.specs.declared.convert.Converted.{Converted}
 use Rattle.text.specs.declared.convert.Converted.the-variants.{Refused}
-use Rattle.text.specs.Typed.{headerFields, lineFields, fieldNumber, followed, numbersIn, before, linesIn, TypedSheet, sheetTyped, sheetIn, typedSheet}
+use Rattle.text.specs.Typed.{headerFields, lineFields, readingFields, fieldNumber, followed, numbersIn, before, linesIn, TypedSheet, sheetTyped, sheetIn, typedSheet}
 use Rattle.text.specs.Binary.{techniqueOf, kindOf, usedReadings, readingBits, lineWords, wordsOf, linesBytes, headerWords, binarySheet}
 use Rattle.text.specs.Convert.{Made, Gives, Refuses, byRoom, Converts}
 use Rattle.text.specs.Read.{sheetOfText}
-use Rattle.text.specs.Written.{recordEnd, recordText, usedOf, allTaken, lineTexts, linesFrom, headerTexts, linesText, textOfSheet}
+use Rattle.text.specs.Written.{recordEnd, recordText, readingsOf, usedOf, allTaken, readingTexts, lineTexts, linesFrom, headerTexts, linesText, textOfSheet}
 use Rattle.text.specs.Declare.{bookFirst, DeclaredBy, DeclaredText}
 use Rattle.text.proofs.LawLines.{too-long}
 use Rattle.text.proofs.LawMade.{made-right}
@@ -374,3 +375,17 @@ module _ (book : List ℕ) where
         go : (made : Made) → sheetOfText text ≡ made → DeclaredBy book made exact shown r exact' shown' → ⊥
         go (Gives sheet) made q = right-answer sheet (min (length exact) (length shown)) (made-right text sheet made) (sym (q .demand1 .answer) ∙ is)
         go (Refuses refusal) made q = other-refusal refusal made (sym (q .answer) ∙ is)
+
+-- ---- readings that are not used, refused with 9 or written by the writer
+
+pub untreated-uses-none : (line : Line) → line .technique ≡ 0 → allTaken (usedOf line) ≡ some []
+unfolding allTaken
+untreated-uses-none line none-used = rw none-used refl
+
+-- of the kinds that use none
+pub kindless-uses-none : (readingsOf None ≡ []) × (readingsOf Throughout ≡ [])
+kindless-uses-none = (refl, refl)
+
+pub unused-written : readingTexts readingFields [] ≡ numeral 0 ∷ numeral 0 ∷ numeral 0 ∷ []
+unfolding readingTexts
+unused-written = refl

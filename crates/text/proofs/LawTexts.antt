@@ -8,13 +8,14 @@ use lib.Dec.{eqb}
 use lib.ListN.{length, getD}
 use Rattle.search.proofs.LawTest.{either-way, clash}
 use Rattle.amounts.specs.declared.reading.Taken.{Taken}
-use Rattle.amounts.specs.declared.reading.Taken.the-variants.{Is, Over, Bad}
 use Rattle.shares.specs.declared.share.Reading.{Reading}
 use Rattle.shares.specs.declared.share.Reading.the-variants.{None, Hours, Energy, Throughout}
 use Rattle.desk.specs.declared.line.Line.{Line}
 use Rattle.text.specs.declared.line.Readings.the-variants.{Used, BadOne}
 use Rattle.text.specs.Written.{recordText, mostRecord, readingsOf, usedOf, allTaken, readingTexts, lineTexts}
-use Rattle.text.specs.Inner.{readingsMade, textsFrom, wholeNumbers, Puts, LinePut}
+use Rattle.text.specs.Inner.{readingsMade, textsFrom, wholeNumbers, LinePut}
+use Rattle.numerals.specs.Laid.{Puts}
+use Rattle.text.proofs.LawUsed.{taken-first}
 
 pub used-bad : (o : Option (List ℕ)) → readingsMade o ≡ BadOne → o ≡ none
 used-bad none e = refl
@@ -25,16 +26,8 @@ used-bad (some ts) e = clash (cc)
 taken-count : (readings : List Taken) (ts : List ℕ) → allTaken readings ≡ some ts → length ts ≡ length readings
 unfolding allTaken
 taken-count [] ts e = let none-left : [] ≡ ts = cc in ap length (sym none-left)
-taken-count (Over ∷ readings) ts e = clash (cc)
-taken-count (Bad ∷ readings) ts e = clash (cc)
-taken-count (Is t ∷ readings) ts e = go (allTaken readings) refl (taken-count readings)
-  where
-    go : (o : Option (List ℕ)) → allTaken readings ≡ o → ((us : List ℕ) → allTaken readings ≡ some us → length us ≡ length readings)
-        → length ts ≡ length (Is t ∷ readings)
-    go none same rest = let z : none ≡ some ts = rw same at e in clash (cc)
-    go (some us) same rest =
-        let is : t ∷ us ≡ ts = (let z : some (t ∷ us) ≡ some ts = rw same at e in cc) in
-        omega (arith, ap length is, rest us same)
+taken-count (first ∷ readings) ts e =
+    taken-first first readings ts e (λ t us is rest all. omega (arith, ap length all, taken-count readings us rest))
 
 kind-few : (reading : Reading) → length (readingsOf reading) ≤ 3
 kind-few None = omega arith

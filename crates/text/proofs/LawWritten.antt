@@ -23,10 +23,11 @@ use Rattle.numerals.specs.declared.typed.Typed.the-variants.{Is}
 use Rattle.numerals.proofs.LawBack.{number-back, decimal-back, zero-decimal}
 use Rattle.records.proofs.LawWhole.{plain-content}
 use Rattle.desk.specs.declared.line.Line.{Line}
-use Rattle.text.specs.Typed.{aReading, aCode, anAmount, headerFields, lineFields, fieldNumber, numbersIn}
+use Rattle.text.specs.Typed.{aReading, aCode, aKind, anAmount, headerFields, lineFields, fieldNumber, numbersIn}
 use Rattle.text.specs.Written.{readingsOf, usedOf, ahead, allTaken, readingTexts, lineTexts, headerTexts}
 use Rattle.text.specs.Inner.{padded, lineNumbers, wholeNumbers}
 use Rattle.text.proofs.LawRecord.{written-numeral, written-decimal}
+use Rattle.text.proofs.LawUsed.{taken-first}
 
 -- ---- one field
 
@@ -82,7 +83,7 @@ readings-again (suc n) (t ∷ ts) h = rw (decimal-again t (h 0), readings-again 
 
 -- a line's whole numbers; its readings follow them
 abbrev pub wholeFields : List ℕ
-wholeFields = aCode ∷ aCode ∷ aCode ∷ aCode ∷ aCode ∷ aCode ∷ aCode ∷ 3 ∷ anAmount ∷ anAmount ∷ []
+wholeFields = aCode ∷ aCode ∷ aCode ∷ aCode ∷ aCode ∷ aCode ∷ aCode ∷ aKind ∷ anAmount ∷ anAmount ∷ []
 
 pub line-again : (line : Line) (ts : List ℕ) → FieldsFit wholeFields (wholeNumbers line) → Typable ts
     → numbersIn lineFields (lineTexts line ts) ≡ some (lineNumbers line ts)
@@ -103,21 +104,15 @@ abbrev AllTypable : List Taken → Type 0
 AllTypable [] = Unit
 AllTypable (r ∷ readings) = ((t : ℕ) → r ≡ taken.Is t → t < 10 ^ 14) × AllTypable readings
 
+typable-more : (t : ℕ) (ts : List ℕ) → t < 10 ^ 14 → Typable ts → Typable (t ∷ ts)
+typable-more t ts low others zero = low
+typable-more t ts low others (suc j) = others j
+
 taken-typable : (readings : List Taken) (ts : List ℕ) → AllTypable readings → allTaken readings ≡ some ts → Typable ts
 unfolding allTaken
 taken-typable [] ts a e = let is : ts ≡ [] = cc in λ j. rw is (omega arith)
-taken-typable (taken.Over ∷ readings) ts a e = clash (cc)
-taken-typable (taken.Bad ∷ readings) ts a e = clash (cc)
-taken-typable (taken.Is t ∷ readings) ts a e = go (λ us. taken-typable readings us (a .1)) (allTaken readings) refl e
-  where
-    at : (us : List ℕ) → Typable us → Typable (t ∷ us)
-    at us low zero = a .0 t refl
-    at us low (suc j) = low j
-
-    go : ((us : List ℕ) → allTaken readings ≡ some us → Typable us) → (others : Option (List ℕ)) → allTaken readings ≡ others
-        → ahead t others ≡ some ts → Typable ts
-    go low none same all = clash (cc)
-    go low (some us) same all = let is : ts ≡ t ∷ us = cc in rw is (at us (low us same))
+taken-typable (first ∷ readings) ts a e =
+    taken-first first readings ts e (λ t us is rest all. rw (← all) (typable-more t us (a .0 t is) (taken-typable readings us (a .1) rest)))
 
 -- every limit is far below what can be typed
 limit-typable : (most : ℕ) → partsPerUnit * most < 10 ^ 14 → (x : Float) (t : ℕ) → takenOf partsPerUnit most x ≡ taken.Is t → t < 10 ^ 14

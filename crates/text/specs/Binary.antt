@@ -7,7 +7,7 @@ use lib.ListN.{length, getD}
 use Rattle.headers.specs.Sheet.{sheetHeaderSize, lineSize}
 use Rattle.amounts.specs.Reading.{partsBits}
 use Rattle.numerals.specs.Word.{word}
-use Rattle.text.specs.Typed.{TypedSheet}
+use Rattle.text.specs.Typed.{firstReading, TypedSheet}
 
 -- numbers as little-endian words of these sizes, one after the other
 unfoldable pub wordsOf : (sizes numbers : List ℕ) → List ℕ
@@ -32,7 +32,7 @@ usedReadings technique kind = cond (eqb technique 0) 0 (cond (eqb kind 1) 2 (con
 
 -- reading r of a, b, c, of so many thousandths: divided once by 1000 where it is used, else zero whichever numeral was read
 unfoldable pub readingBits : (line : List ℕ) (r : ℕ) → ℕ
-readingBits line r = cond (ltb r (usedReadings (techniqueOf line) (kindOf line))) (partsBits (numberAt line (10 + r))) 0
+readingBits line r = cond (ltb r (usedReadings (techniqueOf line) (kindOf line))) (partsBits (numberAt line (firstReading + r))) 0
 
 -- seven codes, the kind, a zero byte, product and material, a, b, c, eight zero bytes
 abbrev pub lineSizes : List ℕ

@@ -7,11 +7,12 @@ use mathlib.Core.Option.{Option, none, some}
 use lib.Dec.{leb, ltb}
 use lib.ListN.{length, drop, getD, replicate}
 use Rattle.headers.specs.Sheet.{sheetHeader, sheetHeaderSize, lineCount, mostLines}
-use Rattle.numerals.specs.Laid.{laid}
+use Rattle.numerals.specs.Laid.{laid, Puts}
 use Rattle.numerals.specs.declared.typed.Typed.{Typed}
 use Rattle.numerals.specs.declared.typed.Typed.the-variants.{Is, Malformed}
 use Rattle.records.specs.Records.{pieces, recordIn, recordsOf, fieldEnd}
-use Rattle.records.specs.Follow.{behind, following}
+use Rattle.records.specs.Follow.{behind}
+use Rattle.records.specs.Inner.{following}
 use Rattle.records.specs.declared.field.Behind.{Behind}
 use Rattle.records.specs.declared.field.Behind.the-variants.{Field, Record}
 use Rattle.answers.specs.declared.answer.FileFault.the-variants.{ResultTooShort}
@@ -25,7 +26,7 @@ use Rattle.text.specs.declared.field.RecordRead.{RecordRead}
 use Rattle.text.specs.declared.field.RecordRead.the-variants as whole
 use Rattle.text.specs.declared.read.LinesRead.{LinesRead}
 use Rattle.text.specs.declared.read.LinesRead.the-variants as all
-use Rattle.text.specs.Typed.{TypedSheet, fieldNumber, numbersIn, linesIn, fewLines, before, typedSheet}
+use Rattle.text.specs.Typed.{lineWidth, readingFields, TypedSheet, fieldNumber, numbersIn, linesIn, fewLines, before, typedSheet}
 use Rattle.text.specs.Binary.{linesBytes, binarySheet}
 use Rattle.text.specs.Convert.{Gives, Refuses}
 use Rattle.text.specs.Written.{recordEnd, recordText, mostRecord, kindNumber, usedOf, allTaken, lineTexts, linesFrom, linesText}
@@ -122,10 +123,6 @@ pub record Wordable (at : ℕ) (sizes numbers : List ℕ) : Type 0 where
 
 -- ---- what is written
 
--- places lie below this
-abbrev pub reach : ℕ
-reach = 4_294_967_296
-
 -- the used readings, by how many there are and one by one
 abbrev pub readingsMade : Option (List ℕ) → Readings
 readingsMade none = used.BadOne
@@ -142,17 +139,11 @@ unfoldable pub textsFrom : (from until j : ℕ) (numbers : List ℕ) → List (L
 textsFrom from until j [] = []
 textsFrom from until j (n ∷ numbers) = fieldText n (leb from j && ltb j until) ∷ textsFrom from until (j + 1) numbers
 
--- r is the place where these bytes end, of which there are at most so many, and the text afterwards has them laid into it
-pub record Puts (bytes : List ℕ) (most at : ℕ) (text : List ℕ) (r : ℕ) (text' : List ℕ) : Type 0 where
-  pub ends : r ≡ at + length bytes
-  pub few : length bytes ≤ most
-  pub holds : text' ≡ laid at bytes text
-
 -- a line's record, where no used reading is bad
 pub record LinePut (line : Line) (at : ℕ) (text : List ℕ) (r : ℕ) (text' : List ℕ) : Type 0 where
   pub thousandths : List ℕ
   pub taken : allTaken (usedOf line) ≡ some thousandths
-  pub puts : Puts (recordText (lineTexts line thousandths)) (mostRecord 13) at text r text'
+  pub puts : Puts (recordText (lineTexts line thousandths)) (mostRecord lineWidth) at text r text'
 
 abbrev pub LineWritten : (line : Line) (at : ℕ) (text : List ℕ) (r : LineText) (text' : List ℕ) → Type 0
 LineWritten line at text (lineEnds.Ends end) text' = LinePut line at text end text'
@@ -162,7 +153,7 @@ LineWritten line at text lineEnds.BadReading text' = allTaken (usedOf line) ≡ 
 pub record LinesPut (s : List ℕ) (at : ℕ) (text : List ℕ) (r : ℕ) (text' : List ℕ) : Type 0 where
   pub bytes : List ℕ
   pub gives : linesText 0 (linesFrom s 0 (lineCount s)) ≡ Gives bytes
-  pub puts : Puts bytes (mostRecord 13 * mostLines) at text r text'
+  pub puts : Puts bytes (mostRecord lineWidth * mostLines) at text r text'
 
 abbrev pub LinesWritten : (s : List ℕ) (at : ℕ) (text : List ℕ) (r : LinesText) (text' : List ℕ) → Type 0
 LinesWritten s at text (linesEnd.Ends end) text' = LinesPut s at text end text'
@@ -193,7 +184,7 @@ wholeNumbers line =
     ∷ []
 
 unfoldable pub lineNumbers : (line : Line) (thousandths : List ℕ) → List ℕ
-lineNumbers line ts = wholeNumbers line ++ padded 3 ts
+lineNumbers line ts = wholeNumbers line ++ padded readingFields ts
 
 -- the used readings of a line that has no bad one
 abbrev pub takenNumbers : Option (List ℕ) → List ℕ

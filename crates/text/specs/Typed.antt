@@ -48,6 +48,16 @@ abbrev pub lineFields : List ℕ
 lineFields =
     aCode ∷ aCode ∷ aCode ∷ aCode ∷ aCode ∷ aCode ∷ aCode ∷ aKind ∷ anAmount ∷ anAmount ∷ aReading ∷ aReading ∷ aReading ∷ []
 
+-- the fields of a line, the first of its readings, and how many these are
+abbrev pub lineWidth : ℕ
+lineWidth = length lineFields
+
+abbrev pub firstReading : ℕ
+firstReading = 10
+
+abbrev pub readingFields : ℕ
+readingFields = 3
+
 -- the number of a field; of a reading its thousandths
 unfoldable pub fieldNumber : (takes : ℕ) (field : List ℕ) → Typed
 fieldNumber takes field = cond (eqb takes aReading) (decimalIn (contentOf field)) (numberIn mostDigits takes (contentOf field))

@@ -20,6 +20,7 @@ use Rattle.desk.specs.Sheet.{sheetOk}
 use Rattle.desk.specs.Line.{lineOf}
 use Rattle.desk.specs.declared.line.Line.{Line}
 use Rattle.text.specs.Convert.{Made, Gives, Refuses}
+use Rattle.text.specs.Typed.{headerFields, lineWidth, readingFields}
 
 -- ---- records
 
@@ -42,9 +43,9 @@ mostField = mostDecimal + length recordEnd
 abbrev pub mostRecord : (fields : ℕ) → ℕ
 mostRecord fields = mostField * fields
 
--- of a text: the header's three fields, and thirteen a line
+-- of a text: the header's fields, and those of each line
 abbrev pub mostSheetText : ℕ
-mostSheetText = mostRecord 3 + mostRecord 13 * mostLines
+mostSheetText = mostRecord (length headerFields) + mostRecord lineWidth * mostLines
 
 -- ---- a line
 
@@ -94,7 +95,7 @@ lineTexts line ts =
     ∷ numeral (kindNumber (line .reading))
     ∷ numeral (line .product)
     ∷ numeral (line .material)
-    ∷ readingTexts 3 ts
+    ∷ readingTexts readingFields ts
 
 -- ---- the sheet
 

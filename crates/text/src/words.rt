@@ -5,6 +5,7 @@ ghost use lib.ListN.{length};
 ghost use Rattle.headers.specs.Sheet.{mostLines};
 ghost use Rattle.numerals.specs.Laid.{laid};
 ghost use Rattle.text.specs.Binary.{usedReadings, readingBits, wordsOf, lineBytes, headerSizes, headerWords, sheetSize};
+ghost use Rattle.text.specs.Typed.{lineWidth, readingFields};
 ghost use Rattle.text.specs.Inner.{Wordable};
 use super::field::FIRST_READING;
 use super::field::KIND;
@@ -42,7 +43,7 @@ fn used_readings(technique: u64, kind: u64) -> usize
 
 // Reading r of a, b, c; one that is not used is zero, whatever was typed.
 fn reading_bits(numbers: &[u64], r: usize) -> u64
-    requires { ⌜ (length (now numbers) ≡ 13) × (r < 3) ⌝ }
+    requires { ⌜ (length (now numbers) ≡ lineWidth) × (r < readingFields) ⌝ }
     ensures { λ bits. ⌜ bits ≡ readingBits (now (numbers .entry)) r ⌝ }
 {
     if r < used_readings(numbers[TECHNIQUE], numbers[KIND]) {
@@ -54,7 +55,7 @@ fn reading_bits(numbers: &[u64], r: usize) -> u64
 
 // Line i, counted from 0.
 pub(crate) fn lay_line(sheet: &mut [u8], i: usize, numbers: &[u64])
-    requires { ⌜ (length (now numbers) ≡ 13) × (i < mostLines) ⌝ }
+    requires { ⌜ (length (now numbers) ≡ lineWidth) × (i < mostLines) ⌝ }
     ensures { λ _. ⌜ now (sheet .exit) ≡ laid (sheetSize i) (lineBytes (now (numbers .entry))) (now (sheet .entry)) ⌝ }
 {
     let sizes = [2u8, 2, 2, 2, 2, 2, 2, 1, 1, 8, 8, 8, 8, 8, 8];

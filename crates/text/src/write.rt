@@ -3,12 +3,13 @@ ghost use mathlib.Core.Path.{_≡_};
 ghost use mathlib.Core.Bool.{true};
 ghost use Prim.Native.Nat.{_+_, _*_, _≤_};
 ghost use lib.ListN.{length};
-ghost use Rattle.numerals.specs.Laid.{Lays};
+ghost use Rattle.numerals.specs.Laid.{Lays, reach, Puts};
 ghost use Rattle.numerals.specs.Numeral.{mostDecimal};
 ghost use Rattle.desk.specs.Sheet.{sheetOk};
 ghost use Rattle.text.specs.Convert.{Converts};
+ghost use Rattle.text.specs.Typed.{headerFields, lineWidth};
 ghost use Rattle.text.specs.Written.{mostRecord, recordText, textOfSheet};
-ghost use Rattle.text.specs.Inner.{reach, fieldText, separatorText, textsFrom, Puts, LineWritten, LinesWritten};
+ghost use Rattle.text.specs.Inner.{fieldText, separatorText, textsFrom, LineWritten, LinesWritten};
 use super::convert::Converted;
 use super::convert::finished;
 use super::convert::refused;
@@ -91,7 +92,7 @@ fn lay_record(text: &mut [u8], at: usize, numbers: &[u64], from: usize, until: u
 }
 
 fn lay_line(text: &mut [u8], at: usize, line: Line) -> LineText
-    requires { ⌜ at + mostRecord 13 ≤ reach ⌝ }
+    requires { ⌜ at + mostRecord lineWidth ≤ reach ⌝ }
     ensures { λ r. ⌜ LineWritten line at (now (text .entry)) r (now (text .exit)) ⌝ }
 {
     let reading = line.reading;
@@ -118,7 +119,7 @@ fn lay_line(text: &mut [u8], at: usize, line: Line) -> LineText
 
 // In a right sheet every line that is counted is there.
 fn lay_lines(text: &mut [u8], at: usize, sheet: &[u8]) -> LinesText
-    requires { ⌜ (sheetOk (now sheet) ≡ true) × (at ≤ mostRecord 3) ⌝ }
+    requires { ⌜ (sheetOk (now sheet) ≡ true) × (at ≤ mostRecord (length headerFields)) ⌝ }
     ensures { λ r. ⌜ LinesWritten (now (sheet .entry)) at (now (text .entry)) r (now (text .exit)) ⌝ }
 {
     let lines = line_count(sheet);

@@ -6,7 +6,7 @@ use lib.ListN.{length}
 use borrow.Author.Needs.{needs}
 use Rattle.numerals.proofs.LawLaid.{length-laid}
 use Rattle.report.specs.Report.{mostRow, linesText}
-use Rattle.report.specs.Inner.{Puts}
+use Rattle.numerals.specs.Laid.{Puts}
 use Rattle.report.proofs.LawPut.{lines-start, lines-step, lines-done}
 use Rattle.report.proofs.rows.line_rows.Statement.{statement}
 use Rattle.report.proofs.rows.line_rows.Tie as tie

@@ -7,7 +7,8 @@ use lib.ListN.{length}
 use Rattle.numerals.proofs.LawLaid.{length-laid}
 use Rattle.desk.specs.Works.{results}
 use Rattle.report.specs.Bundle.{mostSheetText}
-use Rattle.report.specs.Inner.{Puts, sheetTexts}
+use Rattle.report.specs.Inner.{sheetTexts}
+use Rattle.numerals.specs.Laid.{Puts}
 use Rattle.report.proofs.LawSheets.{sheets-start, sheets-step, sheets-done}
 use Rattle.report.proofs.sheets.tell_sheets.Statement.{statement}
 use Rattle.report.proofs.sheets.tell_sheets.Tie as tie

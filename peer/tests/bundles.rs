@@ -3,26 +3,9 @@
 
 use peer::compare::{limited, thinned, BundleCase, Tally};
 use peer::make::generate::Size;
+use peer::make::two_kinds::{bad_book, book};
 use peer::make::works::{mixed_works, sound_works};
-use peer::make::{every_two, Book, Bundle, Line, Random, Row, Sheet, Technique};
-
-/// A row by hours and one by energy (process 2), COD in water.
-fn book() -> Book {
-    let technique = |code, efficiency| Technique { code, efficiency };
-    let row = Row::plain(1, 1, 203);
-    let by_energy = Row { place: [3240, 1, 1, 2], ..row }.with_techniques(2, 0, 1);
-    Book {
-        rows: vec![row.with_techniques(1, 0, 2), by_energy],
-        techniques: vec![technique(1, 700), technique(2, 300)],
-        gaps: [0, 0, 0],
-    }
-}
-
-fn bad_book() -> Vec<u8> {
-    let mut book = book();
-    book.rows[0].medium = 4;
-    book.bytes()
-}
+use peer::make::{every_two, Bundle, Line, Random, Sheet};
 
 fn line(product: u64) -> Line {
     Line { reuse: 333, ..Line::direct(product).treated(1, 1, [7000.0, 7920.0, 0.0]) }

@@ -5,27 +5,10 @@ use checkraven::{Outcome, MOST_SHEET, MOST_SHEET_TEXT};
 use peer::compare::{limited, run_plain, thinned, Case, Conversion, Tally, TextCase, ThereAndBack};
 use peer::make::generate::{self, Size};
 use peer::make::text::{wide_sheet, Text};
-use peer::make::{edges, every_two, Book, Line, Random, Row, Sheet, Technique};
+use peer::make::two_kinds::{bad_book, book};
+use peer::make::{edges, every_two, Line, Random, Sheet};
 use std::fs;
 use std::path::Path;
-
-/// A row by hours and one by energy (process 2), COD in water.
-fn book() -> Book {
-    let technique = |code, efficiency| Technique { code, efficiency };
-    let row = Row::plain(1, 1, 203);
-    let by_energy = Row { place: [3240, 1, 1, 2], ..row }.with_techniques(2, 0, 1);
-    Book {
-        rows: vec![row.with_techniques(1, 0, 2), by_energy],
-        techniques: vec![technique(1, 700), technique(2, 300)],
-        gaps: [0, 0, 0],
-    }
-}
-
-fn bad_book() -> Vec<u8> {
-    let mut book = book();
-    book.rows[0].medium = 4;
-    book.bytes()
-}
 
 fn by_hours() -> Line {
     Line { reuse: 333, ..Line::direct(16_250_001).treated(1, 1, [7000.5, 7920.0, 0.0]) }
@@ -125,6 +108,15 @@ fn lines_at_every_offset() {
     }
 }
 
+/// A sheet that is written and read again has the same bytes.
+fn same_bytes_again(tally: &mut Tally, sheet: &[u8]) {
+    let writing = Conversion::write(sheet);
+    tally.expect_accepted(&writing);
+    let reading = Conversion::read(writing.run_plain().bytes());
+    tally.expect_accepted(&reading);
+    assert_eq!(reading.run_plain().bytes(), sheet);
+}
+
 /// Every thousandth of an hour up to the limit is written, and read again as
 /// the same binary64.
 #[test]
@@ -135,11 +127,7 @@ fn every_thousandth_of_an_hour() {
     let line = |first: u64| by_hours().treated(1, 1, [hours(first), hours(first + 1), 0.0]);
     for first in thinned((0..=LIMIT).step_by(256).collect()) {
         let sheet = sheet((first..first + 256).step_by(2).map(line).collect()).bytes();
-        let writing = Conversion::write(&sheet);
-        tally.expect_accepted(&writing);
-        let reading = Conversion::read(writing.run_plain().bytes());
-        tally.expect_accepted(&reading);
-        assert_eq!(reading.run_plain().bytes(), sheet);
+        same_bytes_again(&mut tally, &sheet);
     }
 }
 
@@ -155,11 +143,7 @@ fn thousandths_of_energy_near_the_limits() {
             by_energy().treated(1, 2, readings)
         });
         let sheet = sheet(lines.collect()).bytes();
-        let writing = Conversion::write(&sheet);
-        tally.expect_accepted(&writing);
-        let reading = Conversion::read(writing.run_plain().bytes());
-        tally.expect_accepted(&reading);
-        assert_eq!(reading.run_plain().bytes(), sheet);
+        same_bytes_again(&mut tally, &sheet);
     }
 }
 

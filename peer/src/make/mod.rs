@@ -8,6 +8,7 @@ pub mod generate;
 mod parts;
 mod random;
 pub mod text;
+pub mod two_kinds;
 pub mod works;
 
 pub use bundle::Bundle;

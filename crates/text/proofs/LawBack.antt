@@ -25,12 +25,12 @@ use Rattle.desk.specs.Line.{lineOf, readingAt}
 use Rattle.desk.specs.declared.line.Line.{Line}
 use Rattle.desk.proofs.LawTable.{lines-few}
 use Rattle.text.specs.Convert.{Made, Gives, Refuses}
-use Rattle.text.specs.Typed.{aCode, anAmount, headerFields, linesIn, noneZero, typedSheet}
+use Rattle.text.specs.Typed.{aCode, anAmount, headerFields, linesIn, noneZero, typedSheet, lineWidth}
 use Rattle.text.specs.Written.{recordText, mostRecord, mostSheetText, kindNumber, usedOf, allTaken, lineTexts, linesFrom, headerTexts}
 use Rattle.text.specs.Written.{readingTexts, inFront, withLine, linesText, textOfSheet}
-use Rattle.text.specs.Inner.{linesNumbers, sheetNumbers, wholeNumbers}
+use Rattle.text.specs.Inner.{linesNumbers, sheetNumbers, wholeNumbers, headerNumbers}
 use Rattle.text.proofs.LawRecord.{WrittenFields, written-numerals, written-readings, readings-count, record-first, record-short}
-use Rattle.text.proofs.LawWritten.{FieldFits, FieldsFit, done, _and_, field-fits, wholeFields, line-again, headerNumbers, header-again, used-typable}
+use Rattle.text.proofs.LawWritten.{FieldFits, FieldsFit, done, _and_, field-fits, wholeFields, line-again, header-again, used-typable}
 
 -- ---- what was given
 
@@ -87,7 +87,7 @@ thirteen line ts = rw (readings-count 3 ts)
 header-texts : (s : List ℕ) → WrittenFields (headerTexts s)
 header-texts s = written-numerals (headerNumbers s) [] tt
 
-lines-size : (s : List ℕ) (k i n : ℕ) (w : List ℕ) → linesText k (linesFrom s i n) ≡ Gives w → length w ≤ mostRecord 13 * n
+lines-size : (s : List ℕ) (k i n : ℕ) (w : List ℕ) → linesText k (linesFrom s i n) ≡ Gives w → length w ≤ mostRecord lineWidth * n
 unfolding linesFrom
 lines-size s k i zero w e = rw (no-lines k w e) (omega arith)
 lines-size s k i (suc n) w e =

@@ -19,6 +19,7 @@ use Rattle.desk.specs.Found.{sheetLine}
 use Rattle.desk.specs.declared.line.Line.{Line}
 use Rattle.desk.specs.declared.line.SheetLine.the-variants.{There, NotThere}
 use Rattle.desk.proofs.LawFound.{right-line}
+use Rattle.text.specs.Typed.{lineWidth}
 use Rattle.text.specs.Convert.{Made, Gives, Refuses}
 use Rattle.text.specs.Written.{mostRecord, recordText, usedOf, allTaken, lineTexts, linesFrom, inFront, linesText}
 use Rattle.text.specs.Inner.{LinePut, LinesPut}
@@ -44,7 +45,7 @@ module _ (s : List ℕ) (at : ℕ) (text : List ℕ) where
   pub record WrittenSoFar (text' : List ℕ) (next i : ℕ) : Type 0 where
     pub done : List ℕ
     pub within : i ≤ lineCount s
-    pub few : length done ≤ mostRecord 13 * i
+    pub few : length done ≤ mostRecord lineWidth * i
     pub ends : next ≡ at + length done
     pub holds : text' ≡ laid at done text
     pub whole : all ≡ inFront done (left i)

@@ -2,10 +2,9 @@
 use Prim.Native.Nat.{ℕ, _+_}
 use mathlib.Core.Path.{_≡_, refl, _∙_}
 use mathlib.Core.Bool.{true, false}
-use mathlib.Core.List.{List, [], _∷_, _++_}
+use mathlib.Core.List.{List, _++_}
 use native.Mathlib.Omega.{arith}
 use lib.ListN.{length, length-append}
-use Rattle.headers.specs.Sheet.{sheetHeader}
 use Rattle.answers.specs.declared.answer.FileFault.the-variants.{SheetMalformed}
 use Rattle.answers.specs.declared.answer.LineFault.the-variants.{BadReading}
 use Rattle.answers.specs.declared.answer.Outcome.the-variants.{RefusedFile, RefusedLine}
@@ -13,9 +12,10 @@ use Rattle.numerals.specs.Laid.{laid, Puts}
 use Rattle.numerals.proofs.LawLaid.{laid-more}
 use Rattle.desk.specs.Sheet.{sheetOk}
 use Rattle.headers.specs.Sheet.{lineCount}
+use Rattle.text.specs.Typed.{headerFields}
 use Rattle.text.specs.Convert.{Gives, Refuses}
 use Rattle.text.specs.Written.{mostRecord, recordText, linesFrom, headerTexts, linesText, textOfSheet}
-use Rattle.text.specs.Inner.{textsFrom, LinesPut}
+use Rattle.text.specs.Inner.{textsFrom, LinesPut, headerNumbers}
 
 module _ (s : List ℕ) where
   pub wrong-sheet : sheetOk s ≡ false → textOfSheet s ≡ Refuses (RefusedFile SheetMalformed)
@@ -23,7 +23,7 @@ module _ (s : List ℕ) where
   wrong-sheet e = rw e refl
 
   -- none of the header's numbers has places
-  header-fields : textsFrom 0 0 0 (sheetHeader s .medium ∷ sheetHeader s .pollutant ∷ sheetHeader s .shownUnit ∷ []) ≡ headerTexts s
+  header-fields : textsFrom 0 0 0 (headerNumbers s) ≡ headerTexts s
   unfolding textsFrom
   header-fields = refl
 
@@ -34,7 +34,7 @@ module _ (s : List ℕ) where
     bad-line line e = rw (ok, e) refl
 
     module _ (text : List ℕ) (at : ℕ) (text₁ : List ℕ)
-        (header : Puts (recordText (textsFrom 0 0 0 (sheetHeader s .medium ∷ sheetHeader s .pollutant ∷ sheetHeader s .shownUnit ∷ []))) (mostRecord 3) 0 text at text₁)
+        (header : Puts (recordText (textsFrom 0 0 0 (headerNumbers s))) (mostRecord (length headerFields)) 0 text at text₁)
         (end : ℕ) (text₂ : List ℕ) (lines : LinesPut s at text₁ end text₂) where
       abbrev front : List ℕ
       front = recordText (headerTexts s)

@@ -11,6 +11,7 @@ use Rattle.amounts.specs.declared.reading.Taken.{Taken}
 use Rattle.shares.specs.declared.share.Reading.{Reading}
 use Rattle.shares.specs.declared.share.Reading.the-variants.{None, Hours, Energy, Throughout}
 use Rattle.desk.specs.declared.line.Line.{Line}
+use Rattle.text.specs.Typed.{lineWidth, firstReading}
 use Rattle.text.specs.declared.line.Readings.the-variants.{Used, BadOne}
 use Rattle.text.specs.Written.{recordText, mostRecord, readingsOf, usedOf, allTaken, readingTexts, lineTexts}
 use Rattle.text.specs.Inner.{readingsMade, textsFrom, wholeNumbers, LinePut}
@@ -60,7 +61,7 @@ module _ (line : Line) where
   numbers a b c = wholeNumbers line ++ (a ∷ b ∷ c ∷ [])
 
   fields-are : (ts : List ℕ) → length ts ≤ 3
-      → textsFrom 10 (10 + length ts) 0 (numbers (getD ts 0 0) (getD ts 1 0) (getD ts 2 0)) ≡ lineTexts line ts
+      → textsFrom firstReading (firstReading + length ts) 0 (numbers (getD ts 0 0) (getD ts 1 0) (getD ts 2 0)) ≡ lineTexts line ts
   unfolding textsFrom lineTexts readingTexts
   fields-are [] h = refl
   fields-are (a ∷ []) h = refl
@@ -69,7 +70,7 @@ module _ (line : Line) where
   fields-are (a ∷ b ∷ c ∷ d ∷ ts) h = absurd (omega (arith, h))
 
   pub line-put : (u a b c at : ℕ) (text : List ℕ) (r : ℕ) (text' : List ℕ) → readingsMade (allTaken (usedOf line)) ≡ Used u a b c
-      → Puts (recordText (textsFrom 10 (10 + u) 0 (numbers a b c))) (mostRecord 13) at text r text' → LinePut line at text r text'
+      → Puts (recordText (textsFrom firstReading (firstReading + u) 0 (numbers a b c))) (mostRecord lineWidth) at text r text' → LinePut line at text r text'
   line-put u a b c at text r text' made puts = go (allTaken (usedOf line)) refl
     where
       go : (o : Option (List ℕ)) → allTaken (usedOf line) ≡ o → LinePut line at text r text'

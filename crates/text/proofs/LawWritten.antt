@@ -2,19 +2,18 @@
 use Prim.Native.Nat.{ℕ, zero, suc, _*_, _^_, _≤_, _<_}
 use mathlib.Core.Path.{_≡_, refl}
 use mathlib.Core.List.{List, [], _∷_, _++_, map}
-use mathlib.Core.Option.{Option, none, some}
+use mathlib.Core.Option.{some}
 use native.Mathlib.Nat.{le-refl}
 use native.Mathlib.Omega.{arith}
 use lib.Dec.{T, leb, ltb, eqb, leb→le, ltb→lt, lit<}
 use lib.Ieee.{Float}
 use lib.ListN.{getD, replicate}
 use borrow.Author.Tests.{ne-eqb}
-use Rattle.search.proofs.LawTest.{either-way, clash}
+use Rattle.search.proofs.LawTest.{either-way}
 use Rattle.amounts.specs.Reading.{partsPerUnit, takenOf}
 use Rattle.amounts.specs.declared.reading.Taken.{Taken}
 use Rattle.amounts.specs.declared.reading.Taken.the-variants as taken
 use Rattle.amounts.proofs.LawReading.{taken-most}
-use Rattle.headers.specs.Sheet.{sheetHeader}
 use Rattle.shares.specs.Share.{mostHours, mostKilowatts, mostKilowattHours}
 use Rattle.shares.specs.declared.share.Reading.{Reading}
 use Rattle.shares.specs.declared.share.Reading.the-variants.{None, Hours, Energy, Throughout}
@@ -24,8 +23,8 @@ use Rattle.numerals.proofs.LawBack.{number-back, decimal-back, zero-decimal}
 use Rattle.records.proofs.LawWhole.{plain-content}
 use Rattle.desk.specs.declared.line.Line.{Line}
 use Rattle.text.specs.Typed.{aReading, aCode, aKind, anAmount, headerFields, lineFields, fieldNumber, numbersIn}
-use Rattle.text.specs.Written.{readingsOf, usedOf, ahead, allTaken, readingTexts, lineTexts, headerTexts}
-use Rattle.text.specs.Inner.{padded, lineNumbers, wholeNumbers}
+use Rattle.text.specs.Written.{readingsOf, usedOf, allTaken, readingTexts, lineTexts, headerTexts}
+use Rattle.text.specs.Inner.{padded, lineNumbers, wholeNumbers, headerNumbers}
 use Rattle.text.proofs.LawRecord.{written-numeral, written-decimal}
 use Rattle.text.proofs.LawUsed.{taken-first}
 
@@ -90,9 +89,6 @@ pub line-again : (line : Line) (ts : List ℕ) → FieldsFit wholeFields (wholeN
 unfolding lineTexts lineNumbers
 line-again line ts f h =
     numerals-again wholeFields (wholeNumbers line) (replicate 3 aReading) (readingTexts 3 ts) (padded 3 ts) f (readings-again 3 ts h)
-
-abbrev pub headerNumbers : (s : List ℕ) → List ℕ
-headerNumbers s = sheetHeader s .medium ∷ sheetHeader s .pollutant ∷ sheetHeader s .shownUnit ∷ []
 
 pub header-again : (s : List ℕ) → FieldsFit headerFields (headerNumbers s) → numbersIn headerFields (headerTexts s) ≡ some (headerNumbers s)
 unfolding numbersIn

@@ -195,9 +195,13 @@ unfoldable pub linesNumbers : (lines : List Line) → List (List ℕ)
 linesNumbers [] = []
 linesNumbers (line ∷ lines) = lineNumbers line (takenNumbers (allTaken (usedOf line))) ∷ linesNumbers lines
 
+-- those of the header
+abbrev pub headerNumbers : (s : List ℕ) → List ℕ
+headerNumbers s = sheetHeader s .medium ∷ sheetHeader s .pollutant ∷ sheetHeader s .shownUnit ∷ []
+
 unfoldable pub sheetNumbers : (s : List ℕ) → TypedSheet
 sheetNumbers s =
     record {
-      header = sheetHeader s .medium ∷ sheetHeader s .pollutant ∷ sheetHeader s .shownUnit ∷ [];
+      header = headerNumbers s;
       lines = linesNumbers (linesFrom s 0 (lineCount s));
     }

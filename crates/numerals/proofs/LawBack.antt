@@ -46,7 +46,7 @@ numeral-digits : (n : ℕ) → allDigits (numeral n) ≡ true
 unfolding numeral allDigits
 numeral-digits n = either-way (eqb n 0) (λ e. rw e) (λ e. rw e (significant-digits mostDigits n))
 
-digits-decimal : (bytes rest : List ℕ) → allDigits bytes ≡ true → allDecimal rest ≡ true → allDecimal (bytes ++ rest) ≡ true
+pub digits-decimal : (bytes rest : List ℕ) → allDigits bytes ≡ true → allDecimal rest ≡ true → allDecimal (bytes ++ rest) ≡ true
 unfolding allDigits allDecimal
 digits-decimal [] rest p q = q
 digits-decimal (b ∷ bytes) rest p q =
@@ -141,8 +141,16 @@ digits-at [] i h l = absurd (omega arith)
 digits-at (b ∷ bytes) zero h l = and-left (isDigit b) (allDigits bytes) h
 digits-at (b ∷ bytes) (suc i) h l = digits-at bytes i (and-right (isDigit b) (allDigits bytes) h) (omega arith)
 
+digit-no-point : (bytes : List ℕ) (i : ℕ) → allDigits bytes ≡ true → i < length bytes → isPointAt bytes i ≡ false
+digit-no-point bytes i h l = ne-eqb (getD bytes i 0) point (λ e. omega (arith, digit-low (getD bytes i 0) (digits-at bytes i h l)))
+
+pub no-point : (bytes : List ℕ) → allDigits bytes ≡ true → pointIn bytes ≡ Nothing
+unfolding pointIn
+no-point bytes h =
+    first-rest (isPointAt bytes) 0 (length bytes) (first-start (isPointAt bytes)) (omega arith) (λ i a b. digit-no-point bytes i h b)
+
 -- the point is the first byte that is no digit
-point-at : (whole rest : List ℕ) → allDigits whole ≡ true → pointIn (whole ++ (point ∷ rest)) ≡ At (length whole)
+pub point-at : (whole rest : List ℕ) → allDigits whole ≡ true → pointIn (whole ++ (point ∷ rest)) ≡ At (length whole)
 unfolding pointIn
 point-at whole rest h =
     sym (first-here (isPointAt bytes) (length whole) (length bytes) none (eq-eqb _ _ (getD-append-seam whole point rest 0)) within)
@@ -150,13 +158,11 @@ point-at whole rest h =
     bytes : List ℕ
     bytes = whole ++ (point ∷ rest)
 
-    no-point : (i : ℕ) → i < length whole → isPointAt bytes i ≡ false
-    no-point i l =
-        rw (List·getD-append whole (point ∷ rest) 0 i l)
-        (ne-eqb (getD whole i 0) point (λ e. omega (arith, digit-low (getD whole i 0) (digits-at whole i h l))))
+    before : (i : ℕ) → i < length whole → isPointAt bytes i ≡ false
+    before i l = rw (List·getD-append whole (point ∷ rest) 0 i l) (digit-no-point whole i h l)
 
     none : first (length whole) (isPointAt bytes) ≡ Nothing
-    none = first-rest (isPointAt bytes) 0 (length whole) (first-start (isPointAt bytes)) (omega arith) (λ i a b. no-point i b)
+    none = first-rest (isPointAt bytes) 0 (length whole) (first-start (isPointAt bytes)) (omega arith) (λ i a b. before i b)
 
     within : length whole < length bytes
     within = omega (arith, length-append whole (point ∷ rest))

@@ -1,19 +1,18 @@
 -- A decimal numeral as it was typed: its point, its places, its size. Assumes nothing.
 use Prim.Native.Nat.{ℕ, _+_, _-_, _*_, _^_, _≤_, _<_}
-use mathlib.Core.Path.{_≡_, refl, ap, _∙_}
+use mathlib.Core.Path.{_≡_, refl, ap}
 use mathlib.Core.Bool.{true}
 use mathlib.Core.List.{List, [], _∷_}
-use native.Mathlib.Nat.{pow-suc, one-le-pow, mul-one, mul-le-mul-right, mul-lt-mul-of-pos-right}
+use native.Mathlib.Nat.{pow-suc, one-le-pow, mul-le-mul-right, mul-lt-mul-of-pos-right}
 use native.Mathlib.Omega.{arith}
 use lib.ListN.{length, take, drop}
 use lib.Pow.{pow-add}
 use borrow.Author.Tests.{leb-true}
 use Rattle.search.proofs.LawTest.{clash, and-left, and-right, every-at}
 use Rattle.search.proofs.LawFirst.{first-below}
-use Rattle.search.specs.declared.found.Found.{Found}
 use Rattle.search.specs.declared.found.Found.the-variants.{At, Nothing}
-use Rattle.numerals.specs.Numeral.{zeroDigit, valueOf, thousand}
-use Rattle.numerals.specs.Typed.{isDigit, allDigits, isNumeral, numberIn, places, mostPlaces, mostWhole, isPointAt, pointIn, wholeIn, placesIn, asPlaces, joined, decimalIn}
+use Rattle.numerals.specs.Numeral.{zeroDigit, valueOf}
+use Rattle.numerals.specs.Typed.{isDigit, allDigits, isNumeral, numberIn, places, mostPlaces, isPointAt, pointIn, wholeIn, placesIn, asPlaces, joined, decimalIn}
 use Rattle.numerals.specs.Inner.{AtMost}
 use Rattle.numerals.specs.declared.typed.Typed.{Typed}
 use Rattle.numerals.specs.declared.typed.Typed.the-variants.{Is, Malformed}
@@ -33,26 +32,17 @@ value-below so-far (b ∷ bytes) h =
 -- ---- the places
 
 module _ (bytes : List ℕ) where
-  pub places-none : numberIn places mostPlaces bytes ≡ Malformed → placesIn bytes ≡ Malformed
-  unfolding placesIn
-  places-none e = rw e
-
   module _ (n : ℕ) (e : numberIn places mostPlaces bytes ≡ Is n) where
     -- 1 to 3 of them
-    size : (1 ≤ length bytes) × (length bytes ≤ places)
+    pub places-few : (1 ≤ length bytes) × (length bytes ≤ places) × (n ≤ mostPlaces)
     unfolding isNumeral
-    size =
+    places-few =
         let is = number-is places mostPlaces bytes n e in
-        (leb-true 1 (length bytes) (every-at _ (is .0) 0), leb-true (length bytes) places (every-at _ (is .0) 1))
+        (leb-true 1 (length bytes) (every-at _ (is .0) 0), leb-true (length bytes) places (every-at _ (is .0) 1), number-most places mostPlaces bytes n e)
 
     pub places-scaled : (k scale : ℕ) → length bytes ≡ k → 10 ^ (places - k) ≡ scale → placesIn bytes ≡ Is (n * scale)
     unfolding placesIn
     places-scaled k scale l s = rw (e, l, s)
-
-    pub places-three : (length bytes ≡ 1 → ⊥) → (length bytes ≡ 2 → ⊥) → placesIn bytes ≡ Is n
-    places-three one two =
-        let three : length bytes ≡ 3 = omega (arith, size, one, two) in
-        places-scaled 3 1 three refl ∙ ap Is (mul-one n)
 
     below : n * 10 ^ (places - length bytes) ≤ mostPlaces
     unfolding isNumeral
@@ -61,7 +51,7 @@ module _ (bytes : List ℕ) where
         let value = value-below 0 bytes (every-at _ (is .0) 2) in
         let few : n < 10 ^ length bytes = omega (arith, is .1) in
         let scaled = mul-lt-mul-of-pos-right few (one-le-pow (places - length bytes) 10 (omega arith)) in
-        let whole : length bytes + (places - length bytes) ≡ places = omega (arith, size) in
+        let whole : length bytes + (places - length bytes) ≡ places = omega (arith, places-few) in
         omega (arith, pow-add 10 (length bytes) (places - length bytes), ap (λ (k : ℕ). 10 ^ k) whole)
 
   pub places-most : AtMost mostPlaces (placesIn bytes)

@@ -3,7 +3,7 @@
 use Prim.Native.Nat.{ℕ, suc, _+_, _≤_, _<_}
 use mathlib.Core.Path.{_≡_, refl, sym, ap, _∙_}
 use mathlib.Core.List.{List, [], _∷_, _++_, append-assoc}
-use native.Mathlib.Nat.{le-antisymm, zero-add, add-zero, add-suc, suc-add}
+use native.Mathlib.Nat.{zero-add, add-zero, add-suc, suc-add}
 use native.Mathlib.Numerals.{add-one}
 use native.Mathlib.Omega.{arith}
 use lib.ListN.{length, take, drop, getD, set, replicate, length-append, length-replicate, replicate-append-replicate}
@@ -70,14 +70,8 @@ laid-step at i bytes text h e =
     let size : length (take i bytes) ≡ i = length-take-le i bytes (omega arith) in
     rw (add-one, take-suc bytes i 0 h) (laid-next at (getD bytes i 0) (take i bytes) text size e)
 
-pub laid-done : (at i : ℕ) (bytes text text' : List ℕ) → (i ≤ length bytes) × (text' ≡ laid at (take i bytes) text) → length bytes ≤ i
-    → Lays bytes (length bytes) at text i text'
-laid-done at i bytes text text' inv h =
-    record {
-      counts = le-antisymm (inv .0) h;
-      few = inv .0;
-      holds = inv .1 ∙ ap (λ (b : List ℕ). laid at b text) (take-all i bytes h);
-    }
+pub laid-done : (at i : ℕ) (bytes text text' : List ℕ) → text' ≡ laid at (take i bytes) text → length bytes ≤ i → text' ≡ laid at bytes text
+laid-done at i bytes text text' e h = e ∙ ap (λ (b : List ℕ). laid at b text) (take-all i bytes h)
 
 -- ---- a loop that lays zeros, i of them so far
 

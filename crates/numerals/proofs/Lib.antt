@@ -1,8 +1,10 @@
 pub mod LawLaid
+pub mod LawPuts
 pub mod LawNumeral
 pub mod LawValue
 pub mod LawTyped
 pub mod LawDecimal
 pub mod LawBack
+pub mod LawAhead
 pub mod LawWord
 pub mod Figures

@@ -1,5 +1,6 @@
 pub mod Laid
 pub mod Numeral
 pub mod Typed
+pub mod Ahead
 pub mod Word
 pub mod Inner

@@ -1,6 +1,6 @@
 // Lent bytes: others laid into them at a place, and all of them made zero.
 ghost use mathlib.Core.Path.{_≡_};
-ghost use Prim.Native.Nat.{_+_};
+ghost use Prim.Native.Nat.{_+_, _≤_};
 ghost use mathlib.Core.List.{[], _∷_};
 ghost use lib.ListN.{length, replicate};
 ghost use Rattle.numerals.specs.Laid.{laid, Lays};
@@ -16,17 +16,40 @@ pub(crate) fn lay_one(text: &mut [u8], at: usize, i: usize, byte: u8)
     }
 }
 
-// The bytes, one after the other from the place `at` on, as far as the text goes; further bytes are dropped, all of them where the text
-// ends at or before the place. Answers how many bytes there are, dropped ones among them.
-pub fn lay(text: &mut [u8], at: usize, bytes: &[u8]) -> usize
-    ensures { λ r. ⌜ Lays (now (bytes .entry)) (length (now (bytes .entry))) at (now (text .entry)) r (now (text .exit)) ⌝ }
+fn lay_all(text: &mut [u8], at: usize, bytes: &[u8])
+    requires { ⌜ at + length (now bytes) ≤ length (now text) ⌝ }
+    ensures { λ _. ⌜ now (text .exit) ≡ laid at (now (bytes .entry)) (now (text .entry)) ⌝ }
+{
+    let mut i = 0;
+    while i < bytes.len() {
+        text[at + i] = bytes[i];
+        i += 1;
+    }
+}
+
+fn lay_some(text: &mut [u8], at: usize, bytes: &[u8])
+    ensures { λ _. ⌜ now (text .exit) ≡ laid at (now (bytes .entry)) (now (text .entry)) ⌝ }
 {
     let mut i = 0;
     while i < bytes.len() {
         lay_one(text, at, i, bytes[i]);
         i += 1;
     }
-    i
+}
+
+// The bytes, one after the other from the place `at` on, as far as the text goes; further bytes are dropped, all of them where the text
+// ends at or before the place. Answers how many bytes there are, dropped ones among them. Where all have room this is tested once.
+pub fn lay(text: &mut [u8], at: usize, bytes: &[u8]) -> usize
+    ensures { λ r. ⌜ Lays (now (bytes .entry)) (length (now (bytes .entry))) at (now (text .entry)) r (now (text .exit)) ⌝ }
+{
+    if at <= text.len() {
+        if bytes.len() <= text.len() - at {
+            lay_all(text, at, bytes);
+            return bytes.len();
+        }
+    }
+    lay_some(text, at, bytes);
+    bytes.len()
 }
 
 // Every byte becomes 0; of no bytes, none.

@@ -1,7 +1,7 @@
 // A number as it was typed.
 ghost use mathlib.Core.Path.{_≡_};
-ghost use Rattle.numerals.specs.Typed.{decimalIn, isDigit, joined, mostPlaces, mostWhole, numberIn, placesIn, pointIn};
-ghost use Rattle.numerals.specs.Inner.{AtMost};
+ghost use Rattle.numerals.specs.Typed.{asPlaces, decimalIn, isDigit, joined, mostPlaces, mostWhole, numberIn, placesIn, pointIn};
+ghost use Rattle.numerals.specs.Inner.{AtMost, FewPlaces};
 use super::number::POINT;
 use super::number::THOUSAND;
 use super::number::ZERO_DIGIT;
@@ -25,7 +25,7 @@ pub enum Typed {
     Malformed,
 }
 
-fn is_digit(byte: u8) -> bool
+pub(crate) fn is_digit(byte: u8) -> bool
     ensures { λ r. ⌜ r ≡ isDigit byte ⌝ }
 {
     (ZERO_DIGIT <= byte) & (byte <= NINE_DIGIT)
@@ -71,17 +71,18 @@ fn point_in(bytes: &[u8]) -> Found
     Found::Nothing
 }
 
-// Places as thousandths: one is tenths, two are hundredths.
-fn places_in(bytes: &[u8]) -> Typed
-    ensures { λ r. ⌜ r ≡ placesIn (now (bytes .entry)) ⌝ }
+// So many places as thousandths: one is tenths, two are hundredths.
+pub(crate) fn as_places(size: usize, digits: Typed) -> Typed
+    requires { ⌜ FewPlaces size digits ⌝ }
+    ensures { λ r. ⌜ r ≡ asPlaces size digits ⌝ }
 {
-    match number_in(bytes, PLACES, MOST_PLACES) {
+    match digits {
         Typed::Malformed => Typed::Malformed,
         Typed::Is(n) => {
-            if bytes.len() == 1 {
+            if size == 1 {
                 return Typed::Is(n * 100);
             }
-            if bytes.len() == 2 {
+            if size == 2 {
                 return Typed::Is(n * 10);
             }
             Typed::Is(n)
@@ -89,8 +90,14 @@ fn places_in(bytes: &[u8]) -> Typed
     }
 }
 
+fn places_in(bytes: &[u8]) -> Typed
+    ensures { λ r. ⌜ r ≡ placesIn (now (bytes .entry)) ⌝ }
+{
+    as_places(bytes.len(), number_in(bytes, PLACES, MOST_PLACES))
+}
+
 // Both in thousandths; Malformed where either is.
-fn join(whole: Typed, part: Typed) -> Typed
+pub(crate) fn join(whole: Typed, part: Typed) -> Typed
     requires { ⌜ AtMost mostWhole whole × AtMost mostPlaces part ⌝ }
     ensures { λ r. ⌜ r ≡ joined whole part ⌝ }
 {

@@ -16,8 +16,8 @@ use Rattle.little.specs.Part.{partOf}
 use Rattle.search.proofs.LawTest.{either-way, clash, and-left, and-right}
 use Rattle.records.specs.Records.{comma, quote, carriageReturn, lineFeed, Pieces, noPieces, recordIn, onto, returned, turned, pieces}
 use Rattle.records.specs.Records.{isBlank, ended, recordsOf, fieldEnd}
-use Rattle.records.specs.Follow.{behind}
-use Rattle.records.specs.Inner.{endsField, following}
+use Rattle.records.specs.Follow.{endsField, behind}
+use Rattle.records.specs.Inner.{following}
 use Rattle.records.specs.declared.field.Behind.{Behind}
 use Rattle.records.specs.declared.field.Behind.the-variants.{Field, Record}
 

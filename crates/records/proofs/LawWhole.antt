@@ -1,15 +1,18 @@
 -- A field that needs no quotes: it is the text's first field up to the comma or the line end behind it, and holds itself. Assumes nothing.
-use Prim.Native.Nat.{ℕ}
+use Prim.Native.Nat.{ℕ, _+_}
 use mathlib.Core.Path.{_≡_, refl, ap, _∙_}
-use mathlib.Core.Bool.{true, false, and-false}
+use mathlib.Core.Bool.{Bool, true, false, and-false}
 use mathlib.Core.List.{List, [], _∷_, _++_, append-nil}
-use lib.Dec.{eqb}
-use borrow.Author.Tests.{not-true}
+use native.Mathlib.Omega.{arith}
+use lib.Dec.{leb, eqb}
+use lib.ListN.{length, drop}
+use borrow.Author.Tests.{not-true, leb-true, leb-false}
 use Rattle.search.specs.Test.{every}
 use Rattle.search.proofs.LawTest.{and-left, and-right, every-at}
 use Rattle.records.specs.Records.{comma, quote, carriageReturn, lineFeed, Pieces, recordIn, onto, pieces, isQuoted, contentOf}
+use Rattle.records.specs.Follow.{fieldEnds}
 use Rattle.records.specs.Inner.{isPlain, allPlain}
-use Rattle.records.proofs.LawField.{after-comma, after-line-end}
+use Rattle.records.proofs.LawField.{end-here, past-end, after-comma, after-line-end}
 
 no-quote : (b : ℕ) → isPlain b ≡ true → eqb b quote ≡ false
 unfolding isPlain
@@ -40,6 +43,24 @@ module _ (field rest : List ℕ) (plain : allPlain field ≡ true) where
   pub field-before-line-end : pieces false (field ++ (carriageReturn ∷ lineFeed ∷ rest))
       ≡ record { field = field; fields = []; records = recordIn (pieces false rest) ∷ pieces false rest .records }
   field-before-line-end = plain-front field (carriageReturn ∷ lineFeed ∷ rest) plain ∙ rw (after-line-end rest, append-nil field)
+
+-- the same at a place of the text, where it ends
+pub plain-field : (text : List ℕ) (at : ℕ) (field : List ℕ) → allPlain field ≡ true → drop at text ≡ field ++ drop (at + length field) text
+    → fieldEnds text (at + length field) ≡ true → pieces false (drop at text) .field ≡ field
+unfolding fieldEnds
+plain-field text at field plain split ends =
+    rw (split, plain-front field (drop end text) plain, nothing (pieces false (drop end text) .field) (none (leb (length text) end) refl)) (append-nil field)
+  where
+    end : ℕ
+    end = at + length field
+
+    nothing : (l : List ℕ) → length l ≡ 0 → l ≡ []
+    nothing [] e = refl
+    nothing (x ∷ l) e = absurd (omega (arith, e))
+
+    none : (past : Bool) → leb (length text) end ≡ past → length (pieces false (drop end text) .field) ≡ 0
+    none true e = past-end text end false (leb-true (length text) end e)
+    none false e = end-here text end false (omega (arith, leb-false (length text) end e)) (rw e at ends)
 
 -- ---- what it holds
 

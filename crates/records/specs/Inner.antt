@@ -1,16 +1,10 @@
 -- What private functions and laws use, beside what a promise says. Nothing here is needed to read a promise. Assumes nothing.
-use Prim.Native.Nat.{ℕ, _+_}
-use mathlib.Core.Bool.{Bool, true, false, not, cond, _&&_, _||_}
+use Prim.Native.Nat.{ℕ}
+use mathlib.Core.Bool.{Bool, true, not, _&&_}
 use mathlib.Core.List.{List, [], _∷_}
 use lib.Dec.{eqb}
-use Rattle.little.specs.Read.{byteAt}
 use Rattle.search.specs.Test.{every}
 use Rattle.records.specs.Records.{comma, quote, carriageReturn, lineFeed, ended}
-
--- outside quotes a comma, or a carriage return before a line feed
-unfoldable pub endsField : (text : List ℕ) (at : ℕ) (quoted : Bool) → Bool
-endsField text at quoted =
-    cond quoted false (eqb (byteAt text at) comma || (eqb (byteAt text at) carriageReturn && eqb (byteAt text (at + 1)) lineFeed))
 
 -- the records behind one, where there are any
 abbrev pub following : (records : List (List (List ℕ))) → List (List (List ℕ))

@@ -3,8 +3,7 @@ ghost use mathlib.Core.Path.{_≡_};
 ghost use Prim.Native.Nat.{_<_};
 ghost use lib.ListN.{length};
 ghost use Rattle.records.specs.Records.{turned, isQuoted, contentOf, fieldEnd};
-ghost use Rattle.records.specs.Follow.{behind};
-ghost use Rattle.records.specs.Inner.{endsField};
+ghost use Rattle.records.specs.Follow.{behind, endsField, fieldEnds};
 use little::part::part;
 use little::read::byte_at;
 
@@ -58,6 +57,16 @@ pub fn field_end(text: &[u8], at: usize) -> usize
         i += 1;
     }
     i
+}
+
+// Whether a field that is not inside quotes there ends there, if not before: at a comma, at a line end or with the text.
+pub fn field_ends(text: &[u8], at: usize) -> bool
+    ensures { λ r. ⌜ r ≡ fieldEnds (now (text .entry)) at ⌝ }
+{
+    if text.len() <= at {
+        return true;
+    }
+    ends_field(text, at, false)
 }
 
 // What follows a field that ends there: after a comma a field, after a line end a record. Where the text ends the next record would begin

@@ -29,7 +29,7 @@ use Rattle.report.specs.Report.{refusalText, mostCells, reportOf}
 use Rattle.report.specs.Bundle.{sheetReport, sheetsText, roomLent, bundleReportFor, bundleReportOf, mostSheetText, mostBundleText}
 use Rattle.report.specs.Inner.{mostRefusal, answerText, sheetText, sheetTexts, SheetsTellable}
 use Rattle.numerals.specs.Laid.{Puts}
-use Rattle.report.proofs.LawPut.{nothing, then, more}
+use Rattle.numerals.proofs.LawPuts.{nothing, then, more}
 use Rattle.report.proofs.LawTold.{told-few, told-is}
 
 -- ---- one sheet after another

@@ -5,6 +5,7 @@ pub mod LawWords
 pub mod LawConvert
 pub mod LawPut
 pub mod LawRecord
+pub mod LawAhead
 pub mod LawWritten
 pub mod LawBack
 pub mod LawBinary

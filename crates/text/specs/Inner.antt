@@ -4,10 +4,12 @@ use mathlib.Core.Path.{_≡_}
 use mathlib.Core.Bool.{Bool, false, cond, _&&_}
 use mathlib.Core.List.{List, [], _∷_, _++_}
 use mathlib.Core.Option.{Option, none, some}
-use lib.Dec.{leb, ltb}
-use lib.ListN.{length, drop, getD, replicate}
+use lib.Dec.{leb, ltb, eqb}
+use lib.ListN.{length, take, drop, getD, replicate}
 use Rattle.headers.specs.Sheet.{sheetHeader, sheetHeaderSize, lineCount, mostLines}
 use Rattle.numerals.specs.Laid.{laid, Puts}
+use Rattle.numerals.specs.Ahead.{numberFrom, decimalFrom}
+use Rattle.numerals.specs.declared.ahead.Ahead.{Ahead}
 use Rattle.numerals.specs.declared.typed.Typed.{Typed}
 use Rattle.numerals.specs.declared.typed.Typed.the-variants.{Is, Malformed}
 use Rattle.records.specs.Records.{pieces, recordIn, recordsOf, fieldEnd}
@@ -26,8 +28,8 @@ use Rattle.text.specs.declared.field.RecordRead.{RecordRead}
 use Rattle.text.specs.declared.field.RecordRead.the-variants as whole
 use Rattle.text.specs.declared.read.LinesRead.{LinesRead}
 use Rattle.text.specs.declared.read.LinesRead.the-variants as all
-use Rattle.text.specs.Typed.{lineWidth, readingFields, TypedSheet, fieldNumber, numbersIn, linesIn, fewLines, before, typedSheet}
-use Rattle.text.specs.Binary.{linesBytes, binarySheet}
+use Rattle.text.specs.Typed.{aReading, lineWidth, readingFields, TypedSheet, fieldNumber, numbersIn, linesIn, fewLines, before, typedSheet}
+use Rattle.text.specs.Binary.{wordsOf, lineSizes, lineWords, linesBytes, binarySheet}
 use Rattle.text.specs.Convert.{Gives, Refuses}
 use Rattle.text.specs.Written.{recordEnd, recordText, mostRecord, kindNumber, usedOf, allTaken, lineTexts, linesFrom, linesText}
 use Rattle.text.specs.declared.line.Readings.{Readings}
@@ -37,7 +39,7 @@ use Rattle.text.specs.declared.write.LineText.the-variants as lineEnds
 use Rattle.text.specs.declared.write.LinesText.{LinesText}
 use Rattle.text.specs.declared.write.LinesText.the-variants as linesEnd
 use Rattle.answers.specs.declared.answer.LineFault.the-variants.{BadReading}
-use Rattle.numerals.specs.Numeral.{numeral, decimalNumeral}
+use Rattle.numerals.specs.Numeral.{mostDigits, numeral, decimalNumeral}
 use Rattle.records.specs.Records.{comma}
 use Rattle.desk.specs.declared.line.Line.{Line}
 
@@ -63,6 +65,10 @@ takenIf number (Record next) last = cond last (one.Number number next) one.Broke
 abbrev pub withNumber : (typed : Typed) (follows : Behind) (last : Bool) → FieldRead
 withNumber (Is number) follows last = takenIf number follows last
 withNumber Malformed follows last = one.Broken
+
+-- what is asked for, if it stands there
+unfoldable pub fieldAhead : (text : List ℕ) (at takes : ℕ) → Ahead
+fieldAhead text at takes = cond (eqb takes aReading) (decimalFrom text at) (numberFrom mostDigits takes text at)
 
 unfoldable pub fieldRead : (text : List ℕ) (at takes : ℕ) (last : Bool) → FieldRead
 fieldRead text at takes last = withNumber (fieldNumber takes (pieces false (drop at text) .field)) (behind text (fieldEnd text at)) last
@@ -113,13 +119,16 @@ abbrev pub SheetFound : (text sheet : List ℕ) (r : LinesRead) (sheet' : List �
 SheetFound text sheet (all.Lines n) sheet' = SheetLaid text sheet n sheet'
 SheetFound text sheet all.Broken sheet' = typedSheet text ≡ none
 
--- ---- words
+-- ---- the bytes of a line: seven codes; the kind, a zero byte, two amounts; three readings, eight zero bytes
 
--- a number for each size, at a place that is not far
-pub record Wordable (at : ℕ) (sizes numbers : List ℕ) : Type 0 where
-  pub same : length sizes ≡ length numbers
-  pub few : length sizes ≤ 16
-  pub near : at ≤ 65536
+unfoldable pub codeBytes : (line : List ℕ) → List ℕ
+codeBytes line = wordsOf (take 7 lineSizes) (take 7 (lineWords line))
+
+unfoldable pub amountBytes : (line : List ℕ) → List ℕ
+amountBytes line = wordsOf (take 4 (drop 7 lineSizes)) (take 4 (drop 7 (lineWords line)))
+
+unfoldable pub readingBytes : (line : List ℕ) → List ℕ
+readingBytes line = wordsOf (drop 11 lineSizes) (drop 11 (lineWords line))
 
 -- ---- what is written
 

@@ -1,8 +1,11 @@
 // The fields of a record, as numbers.
 ghost use mathlib.Core.Path.{_≡_};
 ghost use Rattle.text.specs.Typed.{fieldNumber};
-ghost use Rattle.text.specs.Inner.{takenIf, fieldRead, Recordable, RecordFound};
+ghost use Rattle.text.specs.Inner.{takenIf, fieldAhead, fieldRead, Recordable, RecordFound};
 use little::part::part;
+use numerals::ahead::Ahead;
+use numerals::ahead::decimal_from;
+use numerals::ahead::number_from;
 use numerals::number::MOST_DIGITS;
 use numerals::typed::Typed;
 use numerals::typed::decimal_in;
@@ -10,6 +13,7 @@ use numerals::typed::number_in;
 use records::field::Behind;
 use records::field::content;
 use records::field::field_end;
+use records::field::field_ends;
 use records::field::what_follows;
 
 // The fields of a line's record, and of these the technique, the kind and the first reading, counted from 0.
@@ -72,8 +76,8 @@ fn followed(number: u64, follows: Behind, last: bool) -> FieldRead
     }
 }
 
-// The field that begins at `at`.
-fn field_at(text: &[u8], at: usize, takes: u64, last: bool) -> FieldRead
+// The field that begins at `at`, with quotes or without.
+fn any_field(text: &[u8], at: usize, takes: u64, last: bool) -> FieldRead
     ensures { λ r. ⌜ r ≡ fieldRead (now (text .entry)) at takes last ⌝ }
 {
     let end = field_end(text, at);
@@ -81,6 +85,32 @@ fn field_at(text: &[u8], at: usize, takes: u64, last: bool) -> FieldRead
         return FieldRead::Broken;
     };
     followed(number, what_follows(text, end), last)
+}
+
+// What is asked for, if it stands there, whatever follows it.
+fn number_ahead(text: &[u8], at: usize, takes: u64) -> Ahead
+    ensures { λ r. ⌜ r ≡ fieldAhead (now (text .entry)) at takes ⌝ }
+{
+    if takes == A_READING {
+        decimal_from(text, at)
+    } else {
+        number_from(text, at, MOST_DIGITS, takes)
+    }
+}
+
+// The field that begins at `at`. Nearly every one is a numeral without quotes, and is read in one pass: the number that stands there, if the
+// field ends with it.
+fn field_at(text: &[u8], at: usize, takes: u64, last: bool) -> FieldRead
+    ensures { λ r. ⌜ r ≡ fieldRead (now (text .entry)) at takes last ⌝ }
+{
+    let Ahead::Number(number, end) = number_ahead(text, at, takes) else {
+        return any_field(text, at, takes, last);
+    };
+    if field_ends(text, end) {
+        followed(number, what_follows(text, end), last)
+    } else {
+        any_field(text, at, takes, last)
+    }
 }
 
 // The numbers of the record that begins at `at`: a field for each that is asked for, and no other.

@@ -1,32 +1,23 @@
 // The words of a binary sheet.
 ghost use mathlib.Core.Path.{_≡_};
-ghost use Prim.Native.Nat.{_+_, _*_, _≤_, _<_};
+ghost use Prim.Native.Nat.{_≤_, _<_};
 ghost use lib.ListN.{length};
+ghost use Rattle.headers.specs.House.{mostBytes};
 ghost use Rattle.headers.specs.Sheet.{mostLines};
-ghost use Rattle.numerals.specs.Laid.{laid};
+ghost use Rattle.numerals.specs.Laid.{laid, Puts};
 ghost use Rattle.text.specs.Binary.{usedReadings, readingBits, wordsOf, lineBytes, headerSizes, headerWords, sheetSize};
 ghost use Rattle.text.specs.Typed.{lineWidth, readingFields};
-ghost use Rattle.text.specs.Inner.{Wordable};
+ghost use Rattle.text.specs.Inner.{codeBytes, amountBytes, readingBytes};
 use super::field::FIRST_READING;
 use super::field::KIND;
 use super::field::TECHNIQUE;
 use amounts::reading::bits_of_parts;
 use headers::sheet::HEADER_SIZE;
 use headers::sheet::LINE_SIZE;
-use numerals::word::word;
-
-// A number for each size, as little-endian words one after the other.
-fn words(bytes: &mut [u8], at: usize, sizes: &[u8], numbers: &[u64])
-    requires { ⌜ Wordable at (now sizes) (now numbers) ⌝ }
-    ensures { λ _. ⌜ now (bytes .exit) ≡ laid at (wordsOf (now (sizes .entry)) (now (numbers .entry))) (now (bytes .entry)) ⌝ }
-{
-    let mut next = at;
-    let mut i = 0;
-    while i < sizes.len() {
-        next += word(bytes, next, sizes[i] as usize, numbers[i]);
-        i += 1;
-    }
-}
+use numerals::word::eight_bytes;
+use numerals::word::four_bytes;
+use numerals::word::one_byte;
+use numerals::word::two_bytes;
 
 // How many of a, b, c are used.
 fn used_readings(technique: u64, kind: u64) -> usize
@@ -53,30 +44,57 @@ fn reading_bits(numbers: &[u64], r: usize) -> u64
     }
 }
 
+// Industry, product, material, process, scale, technique and reuse.
+fn lay_codes(sheet: &mut [u8], at: usize, numbers: &[u64]) -> usize
+    requires { ⌜ (length (now numbers) ≡ lineWidth) × (at < mostBytes) ⌝ }
+    ensures { λ r. ⌜ Puts (codeBytes (now (numbers .entry))) 14 at (now (sheet .entry)) r (now (sheet .exit)) ⌝ }
+{
+    let mut next = at;
+    next += two_bytes(sheet, next, numbers[0]);
+    next += two_bytes(sheet, next, numbers[1]);
+    next += two_bytes(sheet, next, numbers[2]);
+    next += two_bytes(sheet, next, numbers[3]);
+    next += two_bytes(sheet, next, numbers[4]);
+    next += two_bytes(sheet, next, numbers[5]);
+    next += two_bytes(sheet, next, numbers[6]);
+    next
+}
+
+// The kind, a zero byte, product and material.
+fn lay_amounts(sheet: &mut [u8], at: usize, numbers: &[u64]) -> usize
+    requires { ⌜ (length (now numbers) ≡ lineWidth) × (at < mostBytes) ⌝ }
+    ensures { λ r. ⌜ Puts (amountBytes (now (numbers .entry))) 18 at (now (sheet .entry)) r (now (sheet .exit)) ⌝ }
+{
+    let mut next = at;
+    next += one_byte(sheet, next, numbers[KIND]);
+    next += one_byte(sheet, next, 0);
+    next += eight_bytes(sheet, next, numbers[8]);
+    next += eight_bytes(sheet, next, numbers[9]);
+    next
+}
+
+// a, b, c and eight zero bytes.
+fn lay_readings(sheet: &mut [u8], at: usize, numbers: &[u64]) -> usize
+    requires { ⌜ (length (now numbers) ≡ lineWidth) × (at < mostBytes) ⌝ }
+    ensures { λ r. ⌜ Puts (readingBytes (now (numbers .entry))) 32 at (now (sheet .entry)) r (now (sheet .exit)) ⌝ }
+{
+    let mut next = at;
+    next += eight_bytes(sheet, next, reading_bits(numbers, 0));
+    next += eight_bytes(sheet, next, reading_bits(numbers, 1));
+    next += eight_bytes(sheet, next, reading_bits(numbers, 2));
+    next += eight_bytes(sheet, next, 0);
+    next
+}
+
 // Line i, counted from 0.
 pub(crate) fn lay_line(sheet: &mut [u8], i: usize, numbers: &[u64])
     requires { ⌜ (length (now numbers) ≡ lineWidth) × (i < mostLines) ⌝ }
     ensures { λ _. ⌜ now (sheet .exit) ≡ laid (sheetSize i) (lineBytes (now (numbers .entry))) (now (sheet .entry)) ⌝ }
 {
-    let sizes = [2u8, 2, 2, 2, 2, 2, 2, 1, 1, 8, 8, 8, 8, 8, 8];
-    let line = [
-        numbers[0],
-        numbers[1],
-        numbers[2],
-        numbers[3],
-        numbers[4],
-        numbers[5],
-        numbers[6],
-        numbers[7],
-        0,
-        numbers[8],
-        numbers[9],
-        reading_bits(numbers, 0),
-        reading_bits(numbers, 1),
-        reading_bits(numbers, 2),
-        0,
-    ];
-    words(sheet, HEADER_SIZE + LINE_SIZE * i, &sizes, &line);
+    let at = HEADER_SIZE + LINE_SIZE * i;
+    let amounts = lay_codes(sheet, at, numbers);
+    let readings = lay_amounts(sheet, amounts, numbers);
+    lay_readings(sheet, readings, numbers);
 }
 
 // The header of a sheet of so many lines.
@@ -84,15 +102,12 @@ pub(crate) fn lay_header(sheet: &mut [u8], header: &[u64], lines: usize)
     requires { ⌜ (length (now header) ≡ 3) × (lines ≤ mostLines) ⌝ }
     ensures { λ _. ⌜ now (sheet .exit) ≡ laid 0 (wordsOf headerSizes (headerWords (now (header .entry)) lines)) (now (sheet .entry)) ⌝ }
 {
-    let sizes = [4u8, 2, 1, 1, 4, 4];
     let size = HEADER_SIZE + LINE_SIZE * lines;
-    let words_of_header = [
-        size as u64,
-        lines as u64,
-        header[0],
-        header[1],
-        HEADER_SIZE as u64,
-        header[2],
-    ];
-    words(sheet, 0, &sizes, &words_of_header);
+    let mut at = 0;
+    at += four_bytes(sheet, at, size as u64);
+    at += two_bytes(sheet, at, lines as u64);
+    at += one_byte(sheet, at, header[0]);
+    at += one_byte(sheet, at, header[1]);
+    at += four_bytes(sheet, at, HEADER_SIZE as u64);
+    four_bytes(sheet, at, header[2]);
 }

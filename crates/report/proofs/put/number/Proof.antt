@@ -1,7 +1,7 @@
 -- The space is put, and the numeral where it ends.
 use borrow.Author.Needs.{needs}
 use Rattle.report.specs.Report.{numberText}
-use Rattle.report.proofs.LawPut.{from-place, then}
+use Rattle.numerals.proofs.LawPuts.{from-place, then}
 use Rattle.report.proofs.put.number.Statement.{statement}
 use Rattle.report.proofs.put.number.Tie as tie
 

@@ -1,7 +1,7 @@
 -- Four numbers and the line end, each where the one before it ends.
 use borrow.Author.Needs.{needs}
 use Rattle.report.specs.Report.{amountsText}
-use Rattle.report.proofs.LawPut.{then}
+use Rattle.numerals.proofs.LawPuts.{then}
 use Rattle.report.proofs.rows.amounts.Statement.{statement}
 use Rattle.report.proofs.rows.amounts.Tie as tie
 

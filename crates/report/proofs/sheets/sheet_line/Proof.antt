@@ -1,7 +1,7 @@
 -- A word, a number and the line end, each where the one before it ends.
 use borrow.Author.Needs.{needs}
 use Rattle.report.specs.Bundle.{sheetLine}
-use Rattle.report.proofs.LawPut.{then}
+use Rattle.numerals.proofs.LawPuts.{then}
 use Rattle.report.proofs.sheets.sheet_line.Statement.{statement}
 use Rattle.report.proofs.sheets.sheet_line.Tie as tie
 

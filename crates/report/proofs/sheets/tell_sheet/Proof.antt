@@ -3,7 +3,7 @@ use native.Mathlib.Omega.{arith}
 use borrow.Author.Needs.{needs}
 use denote.Ref.{now}
 use Rattle.bundle.proofs.LawBundle.{exact-room, shown-room, outcomes-room, run-inside}
-use Rattle.report.proofs.LawPut.{then}
+use Rattle.numerals.proofs.LawPuts.{then}
 use Rattle.report.proofs.sheets.tell_sheet.Statement.{statement}
 use Rattle.report.proofs.sheets.tell_sheet.Tie as tie
 

@@ -2,7 +2,7 @@
 use native.Mathlib.Omega.{arith}
 use borrow.Author.Needs.{needs}
 use Rattle.report.specs.Report.{figuresText}
-use Rattle.report.proofs.LawPut.{then, more}
+use Rattle.numerals.proofs.LawPuts.{then, more}
 use Rattle.report.proofs.told.figures.Statement.{statement}
 use Rattle.report.proofs.told.figures.Tie as tie
 

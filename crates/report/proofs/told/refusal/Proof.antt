@@ -1,7 +1,7 @@
 -- Words and numbers, each where the one before it ends.
 use borrow.Author.Needs.{needs}
 use Rattle.report.specs.Report.{refusalText}
-use Rattle.report.proofs.LawPut.{then}
+use Rattle.numerals.proofs.LawPuts.{then}
 use Rattle.report.proofs.told.refusal.Statement.{statement}
 use Rattle.report.proofs.told.refusal.Tie as tie
 

@@ -3,7 +3,7 @@ use native.Mathlib.Omega.{arith}
 use borrow.Author.Needs.{needs}
 use borrow.Author.Tests.{eq-eqb, ne-eqb}
 use Rattle.report.specs.Inner.{answerText}
-use Rattle.report.proofs.LawPut.{more}
+use Rattle.numerals.proofs.LawPuts.{more}
 use Rattle.report.proofs.told.tell.Statement.{statement}
 use Rattle.report.proofs.told.tell.Tie as tie
 

@@ -2,7 +2,7 @@
 use native.Mathlib.Omega.{arith}
 use borrow.Author.Needs.{needs}
 use Rattle.report.specs.Typed.{refusedText}
-use Rattle.report.proofs.LawPut.{more}
+use Rattle.numerals.proofs.LawPuts.{more}
 use Rattle.report.proofs.told.tell_refusal.Statement.{statement}
 use Rattle.report.proofs.told.tell_refusal.Tie as tie
 

@@ -1,7 +1,7 @@
 -- The word, the number and the line end, each where the one before it ends.
 use borrow.Author.Needs.{needs}
 use Rattle.report.specs.Report.{unitText}
-use Rattle.report.proofs.LawPut.{then}
+use Rattle.numerals.proofs.LawPuts.{then}
 use Rattle.report.proofs.told.unit_line.Statement.{statement}
 use Rattle.report.proofs.told.unit_line.Tie as tie
 

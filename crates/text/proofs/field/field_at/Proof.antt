@@ -1,32 +1,27 @@
--- The bytes of the field are its record's first field.
-use mathlib.Core.Path.{_∙_}
-use native.Mathlib.Omega.{arith}
+-- A numeral with which the field ends; or any field.
+use mathlib.Core.Path.{sym, _∙_}
 use borrow.Author.Needs.{needs}
-use Rattle.records.proofs.LawField.{field-start}
-use Rattle.text.proofs.LawField.{number-there, read-broken, read-number}
+use Rattle.text.proofs.LawAhead.{read-ahead}
 use Rattle.text.proofs.field.field_at.Statement.{statement}
 use Rattle.text.proofs.field.field_at.Tie as tie
-
-sub-part : tie.Need-sub-part
-sub-part c = omega (arith, c .field-end .ensures, field-start (c .before .before .args .text .now) (c .before .before .args .at))
-
-returns : tie.Need-returns
-returns c =
-    read-broken (c .before .before .before .before .before .before .args .text .now) (c .before .before .before .before .before .before .args .at) (c .before .before .before .before .before .before .args .takes)
-    (c .before .before .before .before .before .before .args .last) (c .before .match .keys2)
-    (number-there (c .before .before .before .before .before .before .args .text .now) (c .before .before .before .before .before .before .args .at) (c .before .before .before .before .before .before .args .takes)
-    (c .before .before .before .before .field-end .ensures) (c .before .before .before .part .ensures) (c .before .before .field-number .ensures))
 
 returns-2 : tie.Need-returns-2
 returns-2 c =
     c .followed .ensures
-    ∙ read-number (c .before .before .before .before .before .before .before .before .before .args .text .now) (c .before .before .before .before .before .before .before .before .before .args .at)
-    (c .before .before .before .before .before .before .before .before .before .args .takes) (c .before .before .before .before .before .before .before .before .before .args .last) (c .before .before .before .number .given .1)
-    (number-there (c .before .before .before .before .before .before .before .before .before .args .text .now) (c .before .before .before .before .before .before .before .before .before .args .at)
-    (c .before .before .before .before .before .before .before .before .before .args .takes) (c .before .before .before .before .before .before .before .field-end .ensures)
-    (c .before .before .before .before .before .before .part .ensures) (c .before .before .before .before .before .field-number .ensures))
-    (c .before .what-follows .ensures) (c .before .before .before .before .before .before .before .field-end .ensures)
+    ∙ rw (c .before .what-follows .ensures) (read-ahead _ _ _ _ _ _ (sym (c .before .before .before .field-ends .ensures) ∙ c .before .before .if1 .taken) (sym (c .before .before .before .before .before .before .before .number-ahead .ensures) ∙ c .before .before .before .before .before .number .given .1))
 
 pub field-at-spec : {M : Type 1} → statement M
-field-at-spec = tie.close
-    (tie.spec (λ c κs. search needs) sub-part (λ c κs. search needs) (λ c κs. search needs) (λ c. search needs) (λ c. search needs) returns (λ c κs. search needs) (λ c κs. search needs) returns-2)
+field-at-spec =
+    tie.close
+    (tie.spec
+    (λ c κs. search needs)
+    (λ c. search needs)
+    (λ c. search needs)
+    (λ c κs. search needs)
+    (λ c. search needs)
+    (λ c κs. search needs)
+    (λ c κs. search needs)
+    (λ c κs. search needs)
+    (λ c κs. search needs)
+    returns-2
+    (λ c. search needs))

@@ -1,18 +1,41 @@
--- The words of the header, where they stand.
-use mathlib.Core.Path.{refl}
-use native.Mathlib.Omega.{arith}
+-- The words of the header, one after the other.
 use borrow.Author.Needs.{needs}
-use Rattle.text.specs.Binary.{headerWords}
+use Rattle.numerals.proofs.LawPuts.{from-place, nothing, then}
+use Rattle.text.specs.Binary.{wordsOf, headerWords}
 use Rattle.text.proofs.words.lay_header.Statement.{statement}
 use Rattle.text.proofs.words.lay_header.Tie as tie
 
-words-requires : tie.Need-words-requires
-words-requires c κs = record { same = refl; few = omega arith; near = omega arith }
-
 returns : tie.Need-returns
-unfolding headerWords
-returns c = c .before .before .words .ensures
+unfolding headerWords wordsOf
+returns c =
+   
+    (then (from-place (c .before .before .before .before .before .before .before .before .before .before .before .before .before .before .before .before .before .before .before .before .before .before .before .before .before .four-bytes .ensures))
+    (then (from-place (c .before .before .before .before .before .before .before .before .before .before .before .before .before .before .before .before .before .before .before .before .before .two-bytes .ensures))
+    (then (from-place (c .before .before .before .before .before .before .before .before .before .before .before .before .before .before .before .before .one-byte .ensures))
+    (then (from-place (c .before .before .before .before .before .before .before .before .before .before .before .one-byte2 .ensures))
+    (then (from-place (c .before .before .before .before .before .before .before .four-bytes2 .ensures))
+    (then (from-place (c .before .before .four-bytes3 .ensures))
+    (nothing _ _))))))) .holds
 
 pub lay-header-spec : {M : Type 1} → statement M
-lay-header-spec = tie.close
-    (tie.spec (λ c. search needs) (λ c. search needs) (λ c. search needs) (λ c. search needs) (λ c. search needs) (λ c. search needs) (λ c. search needs) words-requires (λ c. search needs) returns)
+lay-header-spec =
+    tie.close
+    (tie.spec
+    (λ c. search needs)
+    (λ c. search needs)
+    (λ c κs. search needs)
+    (λ c. search needs)
+    (λ c κs. search needs)
+    (λ c. search needs)
+    (λ c. search needs)
+    (λ c κs. search needs)
+    (λ c. search needs)
+    (λ c. search needs)
+    (λ c κs. search needs)
+    (λ c. search needs)
+    (λ c κs. search needs)
+    (λ c. search needs)
+    (λ c. search needs)
+    (λ c κs. search needs)
+    (λ c. search needs)
+    returns)

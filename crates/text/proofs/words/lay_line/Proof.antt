@@ -1,25 +1,22 @@
--- The words of the line, where they stand.
-use mathlib.Core.Path.{refl, _∙_}
-use native.Mathlib.Omega.{arith}
+-- Its three runs of words, one after the other.
+use mathlib.Core.Path.{_∙_}
 use borrow.Author.Needs.{needs}
-use Rattle.text.specs.Binary.{lineWords}
+use Rattle.numerals.proofs.LawPuts.{then}
+use Rattle.text.proofs.LawWords.{line-runs}
 use Rattle.text.proofs.words.lay_line.Statement.{statement}
 use Rattle.text.proofs.words.lay_line.Tie as tie
 
-words-requires : tie.Need-words-requires
-words-requires c κs =
-    record { same = refl; few = omega arith; near = omega (arith, c .before .before .before .before .before .before .before .before .before .before .before .before .before .before .before .before .before .before .pre .1) }
-
 returns : tie.Need-returns
-unfolding lineWords
-returns c =
-    c .before .before .words .ensures ∙ rw (
-      c .before .before .before .before .before .before .before .before .reading-bits .ensures,
-      c .before .before .before .before .before .before .before .reading-bits2 .ensures,
-      c .before .before .before .before .before .before .reading-bits3 .ensures,
-    ) refl
+returns c = then (c .before .before .before .before .before .before .before .before .before .before .lay-codes .ensures) (then (c .before .before .before .before .before .before .lay-amounts .ensures) (c .before .before .lay-readings .ensures)) .holds ∙ rw (line-runs (c .before .before .before .before .before .before .before .before .before .before .before .before .before .before .args .numbers .now))
 
 pub lay-line-spec : {M : Type 1} → statement M
-lay-line-spec = tie.close
-    (tie.spec (λ c. search needs) (λ c. search needs) (λ c. search needs) (λ c. search needs) (λ c. search needs) (λ c. search needs) (λ c. search needs) (λ c. search needs) (λ c. search needs) (λ c. search needs)
-    (λ c κs. search needs) (λ c κs. search needs) (λ c κs. search needs) (λ c. search needs) (λ c. search needs) (λ c. search needs) (λ c. search needs) words-requires (λ c. search needs) returns)
+lay-line-spec =
+    tie.close
+    (tie.spec
+    (λ c. search needs)
+    (λ c. search needs)
+    (λ c κs. search needs)
+    (λ c κs. search needs)
+    (λ c κs. search needs)
+    (λ c. search needs)
+    returns)

@@ -1,0 +1,34 @@
+-- The readings and the zero bytes.
+use borrow.Author.Needs.{needs}
+use Rattle.text.specs.Binary.{wordsOf, lineWords}
+use Rattle.text.specs.Inner.{readingBytes}
+use Rattle.numerals.proofs.LawPuts.{from-place, nothing, then}
+use Rattle.text.proofs.words.lay_readings.Statement.{statement}
+use Rattle.text.proofs.words.lay_readings.Tie as tie
+
+returns : tie.Need-returns
+unfolding readingBytes wordsOf lineWords
+returns c =
+    then (from-place (rw (c .before .before .before .before .before .before .before .before .before .before .before .before .before .before .before .before .before .reading-bits .ensures) at (c .before .before .before .before .before .before .before .before .before .before .before .before .before .before .before .before .eight-bytes .ensures)))
+    (then (from-place (rw (c .before .before .before .before .before .before .before .before .before .before .before .before .reading-bits2 .ensures) at (c .before .before .before .before .before .before .before .before .before .before .before .eight-bytes2 .ensures)))
+    (then (from-place (rw (c .before .before .before .before .before .before .before .reading-bits3 .ensures) at (c .before .before .before .before .before .before .eight-bytes3 .ensures)))
+    (then (from-place (c .before .before .eight-bytes4 .ensures))
+    (nothing _ _))))
+
+pub lay-readings-spec : {M : Type 1} → statement M
+lay-readings-spec =
+    tie.close
+    (tie.spec
+    (λ c κs. search needs)
+    (λ c κs. search needs)
+    (λ c. search needs)
+    (λ c κs. search needs)
+    (λ c κs. search needs)
+    (λ c. search needs)
+    (λ c κs. search needs)
+    (λ c κs. search needs)
+    (λ c. search needs)
+    (λ c κs. search needs)
+    (λ c. search needs)
+    (λ c. search needs)
+    returns)

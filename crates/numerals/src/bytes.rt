@@ -27,14 +27,16 @@ fn lay_all(text: &mut [u8], at: usize, bytes: &[u8])
     }
 }
 
-fn lay_some(text: &mut [u8], at: usize, bytes: &[u8])
-    ensures { λ _. ⌜ now (text .exit) ≡ laid at (now (bytes .entry)) (now (text .entry)) ⌝ }
+// The same as `lay`, with a test for each byte: of a few bytes, whose number is not known when this is compiled, it is the faster way.
+pub(crate) fn lay_each(text: &mut [u8], at: usize, bytes: &[u8]) -> usize
+    ensures { λ r. ⌜ Lays (now (bytes .entry)) (length (now (bytes .entry))) at (now (text .entry)) r (now (text .exit)) ⌝ }
 {
     let mut i = 0;
     while i < bytes.len() {
         lay_one(text, at, i, bytes[i]);
         i += 1;
     }
+    i
 }
 
 // The bytes, one after the other from the place `at` on, as far as the text goes; further bytes are dropped, all of them where the text
@@ -48,8 +50,7 @@ pub fn lay(text: &mut [u8], at: usize, bytes: &[u8]) -> usize
             return bytes.len();
         }
     }
-    lay_some(text, at, bytes);
-    bytes.len()
+    lay_each(text, at, bytes)
 }
 
 // Every byte becomes 0; of no bytes, none.

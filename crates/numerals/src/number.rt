@@ -5,6 +5,7 @@ ghost use Rattle.numerals.specs.Laid.{Lays};
 ghost use Rattle.numerals.specs.Numeral.{decimalNumeral, digit, mostDecimal, mostDigits, numeral, significant};
 ghost use Rattle.numerals.specs.Inner.{Ends};
 use super::bytes::lay;
+use super::bytes::lay_each;
 use super::bytes::lay_one;
 
 // The digits of a number, at most.
@@ -54,7 +55,7 @@ pub fn decimal(text: &mut [u8], at: usize, n: u64) -> usize
     }
     let mut tail = [0u8; MOST_DIGITS];
     let from = digits(n, &mut tail);
-    lay(text, at, &tail[from..])
+    lay_each(text, at, &tail[from..])
 }
 
 // The decimal numeral of t thousandths, with all three places, from the place `at` on, as far as the text goes; further bytes are dropped,

@@ -11,8 +11,8 @@ returns-2 : tie.Need-returns-2
 returns-2 c =
     let if1 = c .before .before .before .before .before .before .before .before .before .if1 in
     let digits = c .before .before .before .before .before .before .before .digits in
-    let lay2 = c .before .before .lay2 in
-    some-numeral _ _ _ _ _ (if1 .left) _ _ (digits .ensures) (lay2 .ensures)
+    let lay-each = c .before .before .lay-each in
+    some-numeral _ _ _ _ _ (if1 .left) _ _ (digits .ensures) (lay-each .ensures)
 
 pub decimal-spec : {M : Type 1} → statement M
 decimal-spec =

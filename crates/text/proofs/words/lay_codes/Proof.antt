@@ -9,14 +9,17 @@ use Rattle.text.proofs.words.lay_codes.Tie as tie
 
 add-next-7 : tie.Need-add-next-7
 add-next-7 c =
-    omega (arith, c .before .before .before .before .before .before .before .before .before .before .before .before .before .before .before .before .before .before .before .before .before .before .before .before .before .before .before .before .before .before .before .before .before .before .before .before .before .pre .1,
-    c .before .before .before .before .before .before .before .before .before .before .before .before .before .before .before .before .before .before .before .before .before .before .before .before .before .before .before .before .before .before .before .before .two-bytes .ensures .few,
-    c .before .before .before .before .before .before .before .before .before .before .before .before .before .before .before .before .before .before .before .before .before .before .before .before .before .before .before .two-bytes2 .ensures .few,
-    c .before .before .before .before .before .before .before .before .before .before .before .before .before .before .before .before .before .before .before .before .before .before .two-bytes3 .ensures .few,
-    c .before .before .before .before .before .before .before .before .before .before .before .before .before .before .before .before .before .two-bytes4 .ensures .few,
-    c .before .before .before .before .before .before .before .before .before .before .before .before .two-bytes5 .ensures .few,
-    c .before .before .before .before .before .before .before .two-bytes6 .ensures .few,
-    c .before .before .two-bytes7 .ensures .few)
+    omega (
+      arith,
+      c .before .before .before .before .before .before .before .before .before .before .before .before .before .before .before .before .before .before .before .before .before .before .before .before .before .before .before .before .before .before .before .before .before .before .before .before .before .pre .1,
+      c .before .before .before .before .before .before .before .before .before .before .before .before .before .before .before .before .before .before .before .before .before .before .before .before .before .before .before .before .before .before .before .before .two-bytes .ensures .few,
+      c .before .before .before .before .before .before .before .before .before .before .before .before .before .before .before .before .before .before .before .before .before .before .before .before .before .before .before .two-bytes2 .ensures .few,
+      c .before .before .before .before .before .before .before .before .before .before .before .before .before .before .before .before .before .before .before .before .before .before .two-bytes3 .ensures .few,
+      c .before .before .before .before .before .before .before .before .before .before .before .before .before .before .before .before .before .two-bytes4 .ensures .few,
+      c .before .before .before .before .before .before .before .before .before .before .before .before .two-bytes5 .ensures .few,
+      c .before .before .before .before .before .before .before .two-bytes6 .ensures .few,
+      c .before .before .two-bytes7 .ensures .few,
+    )
 
 returns : tie.Need-returns
 unfolding codeBytes wordsOf lineWords

@@ -8,7 +8,6 @@ use Rattle.text.proofs.words.lay_header.Tie as tie
 returns : tie.Need-returns
 unfolding headerWords wordsOf
 returns c =
-   
     (then (from-place (c .before .before .before .before .before .before .before .before .before .before .before .before .before .before .before .before .before .before .before .before .before .before .before .before .before .four-bytes .ensures))
     (then (from-place (c .before .before .before .before .before .before .before .before .before .before .before .before .before .before .before .before .before .before .before .before .before .two-bytes .ensures))
     (then (from-place (c .before .before .before .before .before .before .before .before .before .before .before .before .before .before .before .before .one-byte .ensures))

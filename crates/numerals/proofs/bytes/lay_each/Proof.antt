@@ -5,8 +5,8 @@ use lib.ListN.{length, take}
 use borrow.Author.Needs.{needs}
 use Rattle.numerals.specs.Laid.{laid}
 use Rattle.numerals.proofs.LawLaid.{length-laid, laid-none, laid-step, laid-done}
-use Rattle.numerals.proofs.bytes.lay_some.Statement.{statement}
-use Rattle.numerals.proofs.bytes.lay_some.Tie as tie
+use Rattle.numerals.proofs.bytes.lay_each.Statement.{statement}
+use Rattle.numerals.proofs.bytes.lay_each.Tie as tie
 
 abbrev Inv-loop : tie.InvT-loop
 Inv-loop text₀ at bytes i₀ text i = (i ≤ length bytes) × (text ≡ laid at (take i bytes) text₀)
@@ -28,10 +28,10 @@ same-length : tie.Need-same-length Inv-loop μ-loop
 same-length c = ap length (c .before .loop .inv .1) ∙ length-laid _ _ _
 
 returns : tie.Need-returns Inv-loop μ-loop
-returns c = laid-done _ _ _ _ _ (c .before .loop .inv .1) (c .loop-test .left)
+returns c = record { counts = search needs; few = search needs; holds = laid-done _ _ _ _ _ (c .before .loop .inv .1) (c .loop-test .left) }
 
-pub lay-some-spec : {M : Type 1} → statement M
-lay-some-spec =
+pub lay-each-spec : {M : Type 1} → statement M
+lay-each-spec =
     tie.close
     (tie.spec Inv-loop μ-loop loop-holds (λ c. search needs) (λ c κs. search needs) (λ c. search needs) (λ c. search needs) loop-again
     same-length returns)

@@ -59,7 +59,7 @@ fn every_other_value_of_every_byte_of_the_sheet() {
 fn every_other_value_of_every_byte(tally: &mut Tally, which: Which) {
     let mut case = small_case();
     let length = file(&mut case, which).len();
-    let changes = (0..length).flat_map(|at| (1..=255u8).map(move |turn| (at, turn))).collect();
+    let changes = (0..255 * length).map(|n| (n / 255, 1 + (n % 255) as u8)).collect();
     for (at, turn) in thinned::<(usize, u8)>(changes) {
         file(&mut case, which)[at] ^= turn;
         tally.agree(&case);

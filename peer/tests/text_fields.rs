@@ -65,7 +65,8 @@ fn numbers_at_the_limits_of_each_field() {
         let edges = [0, least, least + 1, most - 1, most, most + 1, most + 2];
         let wrapped = widths.map(|width| width + least).into_iter().chain(widths);
         let longest = [10u128.pow(19), 10u128.pow(20) - 1, 10u128.pow(20), u128::MAX];
-        for number in edges.into_iter().chain(wrapped).chain(longest) {
+        let near_64_bits = widths[3] - 30..widths[3] + 10;
+        for number in edges.into_iter().chain(wrapped).chain(longest).chain(near_64_bits) {
             let fits = (least..=most).contains(&number);
             check(&mut tally, place, &number.to_string(), fits);
             check(&mut tally, place, &format!("\"{number}\""), fits);

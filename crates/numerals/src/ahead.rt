@@ -95,8 +95,8 @@ fn with_places(text: &[u8], at: usize, whole: Typed) -> Ahead
     ending_at(behind.end, join(whole, as_places(size, places)))
 }
 
-// The thousandths of the decimal numeral from `at` on, its digits, and the point and the digits behind it if there is one, and where it ends.
-// Whatever follows it is not looked at.
+// The thousandths of the decimal numeral from `at` on, and where it ends: its digits, and if a point follows them, that and the digits
+// behind it. Whatever follows is not looked at.
 pub fn decimal_from(text: &[u8], at: usize) -> Ahead
     ensures { λ r. ⌜ r ≡ decimalFrom (now (text .entry)) at ⌝ }
 {

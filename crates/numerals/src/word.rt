@@ -5,8 +5,8 @@ use super::bytes::lay;
 
 const BYTE_RANGE: u64 = little::read::BYTE_RANGE as u64;
 
-// The number as one byte, at the place `at` if it is there. What the word has no room for is dropped, here and below. Answers how many bytes
-// there are, dropped ones among them.
+// The number as one byte, at the place `at` if it is there. What the word has no room for is dropped, here and below. Answers how many
+// bytes there are, dropped ones among them.
 pub fn one_byte(bytes: &mut [u8], at: usize, n: u64) -> usize
     ensures { λ r. ⌜ Lays (word 1 n) 1 at (now (bytes .entry)) r (now (bytes .exit)) ⌝ }
 {

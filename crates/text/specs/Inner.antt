@@ -28,7 +28,8 @@ use Rattle.text.specs.declared.field.RecordRead.{RecordRead}
 use Rattle.text.specs.declared.field.RecordRead.the-variants as whole
 use Rattle.text.specs.declared.read.LinesRead.{LinesRead}
 use Rattle.text.specs.declared.read.LinesRead.the-variants as all
-use Rattle.text.specs.Typed.{aReading, lineWidth, readingFields, TypedSheet, fieldNumber, numbersIn, linesIn, fewLines, before, typedSheet}
+use Rattle.text.specs.Typed.{aReading, lineWidth, readingFields, fieldNumber}
+use Rattle.text.specs.Typed.{TypedSheet, numbersIn, linesIn, fewLines, before, typedSheet}
 use Rattle.text.specs.Binary.{wordsOf, lineSizes, lineWords, linesBytes, binarySheet}
 use Rattle.text.specs.Convert.{Gives, Refuses}
 use Rattle.text.specs.Written.{recordEnd, recordText, mostRecord, kindNumber, usedOf, allTaken, lineTexts, linesFrom, linesText}

@@ -98,8 +98,8 @@ fn number_ahead(text: &[u8], at: usize, takes: u64) -> Ahead
     }
 }
 
-// The field that begins at `at`. Nearly every one is a numeral without quotes, and is read in one pass: the number that stands there, if the
-// field ends with it.
+// The field that begins at `at`. Nearly every one is a numeral without quotes, and is read in one pass: the number that stands there, if
+// the field ends with it.
 fn field_at(text: &[u8], at: usize, takes: u64, last: bool) -> FieldRead
     ensures { λ r. ⌜ r ≡ fieldRead (now (text .entry)) at takes last ⌝ }
 {

@@ -13,7 +13,10 @@ sub-number-of c = front-after _ _ _ (c .digits-from .ensures)
 
 add-with-places : tie.Need-add-with-places
 add-with-places c =
-    omega (arith, inside (c .before .before .before .before .before .args .text .now) (c .before .before .before .before .before .args .at) (c .before .before .before .digits-from .result) (c .before .before .before .digits-from .ensures) (sym (c .before .byte-at .ensures .eq) ∙ c .if1 .taken))
+    let entry = c .before .before .before .before .before .args in
+    let digits-from = c .before .before .before .digits-from in
+    let byte-at = c .before .byte-at in
+    omega (arith, inside (entry .text .now) (entry .at) (digits-from .result) (digits-from .ensures) (sym (byte-at .ensures .eq) ∙ c .if1 .taken))
 
 with-places-requires : tie.Need-with-places-requires
 with-places-requires c κs = λ n e. of-few wholeDigits mostWhole _ _ n (sym (c .before .before .number-of .ensures) ∙ e) .2
@@ -27,8 +30,12 @@ join-requires c κs = (λ n e. of-few wholeDigits mostWhole _ _ n (sym (c .befor
 
 returns-2 : tie.Need-returns-2
 returns-2 c =
-    c .ending-at .ensures
-    ∙ rw (c .before .join .ensures, c .before .before .before .before .number-of .ensures) (decimal-plain _ _ _ (c .before .before .before .before .before .digits-from .ensures) (λ e. c .before .before .if1 .left (c .before .before .before .byte-at .ensures .eq ∙ e)))
+    let digits-from = c .before .before .before .before .before .digits-from in
+    let number-of = c .before .before .before .before .number-of in
+    let byte-at = c .before .before .before .byte-at in
+    let if1 = c .before .before .if1 in
+    let join = c .before .join in
+    c .ending-at .ensures ∙ rw (join .ensures, number-of .ensures) (decimal-plain _ _ _ (digits-from .ensures) (λ e. if1 .left (byte-at .ensures .eq ∙ e)))
 
 pub decimal-from-spec : {M : Type 1} → statement M
 decimal-from-spec =

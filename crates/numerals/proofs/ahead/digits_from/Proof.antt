@@ -32,10 +32,20 @@ sub-value : tie.Need-sub-value Inv-loop μ-loop
 sub-value c = digit-low _ (sym (c .before .before .is-digit .ensures) ∙ not-false _ (c .before .if1 .left))
 
 cast-value : tie.Need-cast-value Inv-loop μ-loop
-cast-value c = omega (arith, digit-high (getD (c .before .before .before .before .before .before .before .args .text .now) (c .before .before .before .before .before .loop .i) 0) (sym (c .before .before .is-digit .ensures) ∙ not-false _ (c .before .if1 .left)))
+cast-value c =
+    let entry = c .before .before .before .before .before .before .before .args in
+    let loop = c .before .before .before .before .before .loop in
+    let is-digit = c .before .before .is-digit in
+    let if1 = c .before .if1 in
+    omega (arith, digit-high (getD (entry .text .now) (loop .i) 0) (sym (is-digit .ensures) ∙ not-false _ (if1 .left)))
 
 add-value : tie.Need-add-value Inv-loop μ-loop
-add-value c = omega (arith, digit-high (getD (c .before .before .before .before .before .before .before .args .text .now) (c .before .before .before .before .before .loop .i) 0) (sym (c .before .before .is-digit .ensures) ∙ not-false _ (c .before .if1 .left)))
+add-value c =
+    let entry = c .before .before .before .before .before .before .before .args in
+    let loop = c .before .before .before .before .before .loop in
+    let is-digit = c .before .before .is-digit in
+    let if1 = c .before .if1 in
+    omega (arith, digit-high (getD (entry .text .now) (loop .i) 0) (sym (is-digit .ensures) ∙ not-false _ (if1 .left)))
 
 loop-again : tie.Need-loop-again Inv-loop μ-loop
 loop-again c = digits-more _ _ _ _ (c .before .before .before .before .before .loop .inv) (c .before .before .before .before .loop-test .taken) (sym (c .before .before .is-digit .ensures) ∙ not-false _ (c .before .if1 .left)) (omega arith)

@@ -21,8 +21,11 @@ join-requires c κs =
 returns : tie.Need-returns
 unfolding withPlaces
 returns c =
-    c .ending-at .ensures
-    ∙ rw (c .before .join .ensures, c .before .before .as-places .ensures, c .before .before .before .number-of .ensures, front-places _ _ _ (c .before .before .before .before .before .digits-from .ensures), end-is _ _ _ (c .before .before .before .before .before .digits-from .ensures))
+    let digits-from = c .before .before .before .before .before .digits-from in
+    let number-of = c .before .before .before .number-of in
+    let as-places = c .before .before .as-places in
+    let join = c .before .join in
+    c .ending-at .ensures ∙ rw (join .ensures, as-places .ensures, number-of .ensures, front-places _ _ _ (digits-from .ensures), end-is _ _ _ (digits-from .ensures))
 
 pub with-places-spec : {M : Type 1} → statement M
 with-places-spec =

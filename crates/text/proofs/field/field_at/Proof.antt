@@ -7,8 +7,12 @@ use Rattle.text.proofs.field.field_at.Tie as tie
 
 returns-2 : tie.Need-returns-2
 returns-2 c =
-    c .followed .ensures
-    ∙ rw (c .before .what-follows .ensures) (read-ahead _ _ _ _ _ _ (sym (c .before .before .before .field-ends .ensures) ∙ c .before .before .if1 .taken) (sym (c .before .before .before .before .before .before .before .number-ahead .ensures) ∙ c .before .before .before .before .before .number .given .1))
+    let number-ahead = c .before .before .before .before .before .before .before .number-ahead in
+    let number = c .before .before .before .before .before .number in
+    let field-ends = c .before .before .before .field-ends in
+    let what-follows = c .before .what-follows in
+    let if1 = c .before .before .if1 in
+    c .followed .ensures ∙ rw (what-follows .ensures) (read-ahead _ _ _ _ _ _ (sym (field-ends .ensures) ∙ if1 .taken) (sym (number-ahead .ensures) ∙ number .given .1))
 
 pub field-at-spec : {M : Type 1} → statement M
 field-at-spec =

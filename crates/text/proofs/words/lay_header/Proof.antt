@@ -8,12 +8,18 @@ use Rattle.text.proofs.words.lay_header.Tie as tie
 returns : tie.Need-returns
 unfolding headerWords wordsOf
 returns c =
-    (then (from-place (c .before .before .before .before .before .before .before .before .before .before .before .before .before .before .before .before .before .before .before .before .before .before .before .before .before .four-bytes .ensures))
-    (then (from-place (c .before .before .before .before .before .before .before .before .before .before .before .before .before .before .before .before .before .before .before .before .before .two-bytes .ensures))
-    (then (from-place (c .before .before .before .before .before .before .before .before .before .before .before .before .before .before .before .before .one-byte .ensures))
-    (then (from-place (c .before .before .before .before .before .before .before .before .before .before .before .one-byte2 .ensures))
-    (then (from-place (c .before .before .before .before .before .before .before .four-bytes2 .ensures))
-    (then (from-place (c .before .before .four-bytes3 .ensures))
+    let four-bytes = c .before .before .before .before .before .before .before .before .before .before .before .before .before .before .before .before .before .before .before .before .before .before .before .before .before .four-bytes in
+    let two-bytes = c .before .before .before .before .before .before .before .before .before .before .before .before .before .before .before .before .before .before .before .before .before .two-bytes in
+    let one-byte = c .before .before .before .before .before .before .before .before .before .before .before .before .before .before .before .before .one-byte in
+    let one-byte2 = c .before .before .before .before .before .before .before .before .before .before .before .one-byte2 in
+    let four-bytes2 = c .before .before .before .before .before .before .before .four-bytes2 in
+    let four-bytes3 = c .before .before .four-bytes3 in
+    (then (from-place (four-bytes .ensures))
+    (then (from-place (two-bytes .ensures))
+    (then (from-place (one-byte .ensures))
+    (then (from-place (one-byte2 .ensures))
+    (then (from-place (four-bytes2 .ensures))
+    (then (from-place (four-bytes3 .ensures))
     (nothing _ _))))))) .holds
 
 pub lay-header-spec : {M : Type 1} → statement M

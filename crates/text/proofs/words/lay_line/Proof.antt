@@ -7,7 +7,12 @@ use Rattle.text.proofs.words.lay_line.Statement.{statement}
 use Rattle.text.proofs.words.lay_line.Tie as tie
 
 returns : tie.Need-returns
-returns c = then (c .before .before .before .before .before .before .before .before .before .before .lay-codes .ensures) (then (c .before .before .before .before .before .before .lay-amounts .ensures) (c .before .before .lay-readings .ensures)) .holds ∙ rw (line-runs (c .before .before .before .before .before .before .before .before .before .before .before .before .before .before .args .numbers .now))
+returns c =
+    let entry = c .before .before .before .before .before .before .before .before .before .before .before .before .before .before .args in
+    let lay-codes = c .before .before .before .before .before .before .before .before .before .before .lay-codes in
+    let lay-amounts = c .before .before .before .before .before .before .lay-amounts in
+    let lay-readings = c .before .before .lay-readings in
+    then (lay-codes .ensures) (then (lay-amounts .ensures) (lay-readings .ensures)) .holds ∙ rw (line-runs (entry .numbers .now))
 
 pub lay-line-spec : {M : Type 1} → statement M
 lay-line-spec =

@@ -9,10 +9,17 @@ use Rattle.text.proofs.words.lay_readings.Tie as tie
 returns : tie.Need-returns
 unfolding readingBytes wordsOf lineWords
 returns c =
-    then (from-place (rw (c .before .before .before .before .before .before .before .before .before .before .before .before .before .before .before .before .before .reading-bits .ensures) at (c .before .before .before .before .before .before .before .before .before .before .before .before .before .before .before .before .eight-bytes .ensures)))
-    (then (from-place (rw (c .before .before .before .before .before .before .before .before .before .before .before .before .reading-bits2 .ensures) at (c .before .before .before .before .before .before .before .before .before .before .before .eight-bytes2 .ensures)))
-    (then (from-place (rw (c .before .before .before .before .before .before .before .reading-bits3 .ensures) at (c .before .before .before .before .before .before .eight-bytes3 .ensures)))
-    (then (from-place (c .before .before .eight-bytes4 .ensures))
+    let reading-bits = c .before .before .before .before .before .before .before .before .before .before .before .before .before .before .before .before .before .reading-bits in
+    let eight-bytes = c .before .before .before .before .before .before .before .before .before .before .before .before .before .before .before .before .eight-bytes in
+    let reading-bits2 = c .before .before .before .before .before .before .before .before .before .before .before .before .reading-bits2 in
+    let eight-bytes2 = c .before .before .before .before .before .before .before .before .before .before .before .eight-bytes2 in
+    let reading-bits3 = c .before .before .before .before .before .before .before .reading-bits3 in
+    let eight-bytes3 = c .before .before .before .before .before .before .eight-bytes3 in
+    let eight-bytes4 = c .before .before .eight-bytes4 in
+    then (from-place (rw (reading-bits .ensures) at (eight-bytes .ensures)))
+    (then (from-place (rw (reading-bits2 .ensures) at (eight-bytes2 .ensures)))
+    (then (from-place (rw (reading-bits3 .ensures) at (eight-bytes3 .ensures)))
+    (then (from-place (eight-bytes4 .ensures))
     (nothing _ _))))
 
 pub lay-readings-spec : {M : Type 1} → statement M

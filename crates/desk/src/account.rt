@@ -16,9 +16,11 @@ use super::line::Line;
 use super::line::MOST_KILOGRAMS;
 use super::line::WHOLE_SHARE;
 use super::line::line_of;
+use super::line::reading_at;
 use super::row::Row;
 use super::row::RowSearch;
 use super::row::row_of;
+use super::sheet::line_start;
 use super::technique::efficiency_at;
 use super::technique::technique_index;
 use amounts::line::Amounts;
@@ -148,5 +150,6 @@ pub(crate) fn line_outcome(b: &[u8], s: &[u8], i: usize) -> LineOutcome
     requires { ⌜ LineReady (lent (now b) (now s)) i ⌝ }
     ensures { λ r. ⌜ r ≡ lineOutcome (lent (now (b .entry)) (now (s .entry))) i ⌝ }
 {
-    account(b, line_of(s, i))
+    let reading = reading_at(s, line_start(s, i));
+    account(b, line_of(s, i, reading))
 }

@@ -5,6 +5,7 @@ ghost use lib.ListN.{length};
 ghost use Rattle.desk.specs.Inner.{LineIn, LineThere, ReadsLine};
 ghost use Rattle.desk.specs.Line.{floatAt, readingAt, lineOf};
 ghost use Rattle.desk.specs.Found.{sheetLine};
+ghost use Rattle.desk.specs.Sheet.{lineStart};
 use super::inside::byte_in;
 use super::inside::u16_in;
 use super::inside::u64_in;
@@ -46,7 +47,7 @@ fn float_at(s: &[u8], at: usize, field: usize) -> f64
     from_bits(u64_in(s, at, field))
 }
 
-fn reading_at(s: &[u8], at: usize) -> Reading
+pub(crate) fn reading_at(s: &[u8], at: usize) -> Reading
     requires { ⌜ LineIn (now s) at ⌝ }
     ensures { λ r. ⌜ r ≡ readingAt (now (s .entry)) at ⌝ }
 {
@@ -70,8 +71,10 @@ fn reading_at(s: &[u8], at: usize) -> Reading
     Reading::None
 }
 
-pub(crate) fn line_of(s: &[u8], i: usize) -> Line
-    requires { ⌜ LineThere (now s) i ⌝ }
+// Line i, with its reading. That is read by a function of its own: the two are each so small that the compiler puts them into every loop
+// that asks for lines.
+pub(crate) fn line_of(s: &[u8], i: usize, reading: Reading) -> Line
+    requires { ⌜ LineThere (now s) i × (reading ≡ readingAt (now s) (lineStart (now s) i)) ⌝ }
     ensures { λ r. ⌜ ReadsLine r (lineOf (now (s .entry)) i) ⌝ }
 {
     let at = line_start(s, i);
@@ -81,7 +84,7 @@ pub(crate) fn line_of(s: &[u8], i: usize) -> Line
         reuse: u16_in(s, at, 12),
         product: u64_in(s, at, 16),
         material: u64_in(s, at, 24),
-        reading: reading_at(s, at),
+        reading,
     }
 }
 
@@ -92,8 +95,9 @@ pub fn sheet_line(s: &[u8], i: usize) -> SheetLine
     if line_count(s) <= i {
         return SheetLine::NotThere;
     }
-    if s.len() < line_start(s, i) + LINE_SIZE {
+    let at = line_start(s, i);
+    if s.len() < at + LINE_SIZE {
         return SheetLine::NotThere;
     }
-    SheetLine::There(line_of(s, i))
+    SheetLine::There(line_of(s, i, reading_at(s, at)))
 }

@@ -18,20 +18,25 @@ returns-2 c =
     none-inside (c .before .before .before .before .before .args .s .now) (c .before .before .before .before .before .args .i) (omega (arith, c .before .before .before .line-count .ensures .eq, c .before .before .if1 .left))
     (omega (arith, c .before .line-start .ensures .eq, c .if2 .taken))
 
+reading-at-requires : tie.Need-reading-at-requires
+reading-at-requires c κs = omega (arith, c .if2 .left)
+
 line-of-requires : tie.Need-line-of-requires
-line-of-requires c κs =
-    record {
-      small = omega (arith, c .before .before .if1 .left, c .before .before .before .line-count .ensures .small);
-      lies = omega (arith, c .before .line-start .ensures .eq, c .if2 .left);
-    }
+line-of-requires c κs = (
+  record {
+    small = omega (arith, c .before .before .before .if1 .left, c .before .before .before .before .line-count .ensures .small);
+    lies = omega (arith, c .before .before .line-start .ensures .eq, c .before .if2 .left);
+  },
+  c .reading-at .ensures ∙ rw (c .before .before .line-start .ensures .eq),
+)
 
 returns-3 : tie.Need-returns-3
 returns-3 c =
     ap There (c .line-of .ensures .eq)
-    ∙ sym (line-there (c .before .before .before .before .before .before .args .s .now) (c .before .before .before .before .before .before .args .i)
-    (omega (arith, c .before .before .before .before .line-count .ensures .eq, c .before .before .before .if1 .left))
-    (omega (arith, c .before .before .line-start .ensures .eq, c .before .if2 .left)))
+    ∙ sym (line-there (c .before .before .before .before .before .before .before .args .s .now) (c .before .before .before .before .before .before .before .args .i)
+    (omega (arith, c .before .before .before .before .before .line-count .ensures .eq, c .before .before .before .before .if1 .left))
+    (omega (arith, c .before .before .before .line-start .ensures .eq, c .before .before .if2 .left)))
 
 pub sheet-line-spec : {M : Type 1} → statement M
 sheet-line-spec = tie.close
-    (tie.spec (λ c κs. search needs) returns line-start-requires (λ c. search needs) returns-2 line-of-requires returns-3)
+    (tie.spec (λ c κs. search needs) returns line-start-requires (λ c. search needs) returns-2 reading-at-requires line-of-requires returns-3)

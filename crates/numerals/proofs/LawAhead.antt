@@ -7,10 +7,11 @@ use native.Mathlib.Nat.{add-zero}
 use native.Mathlib.Numerals.{add-one}
 use native.Mathlib.Omega.{arith}
 use lib.Dec.{leb, ltb, eqb}
-use lib.ListN.{length, drop, getD, length-append, drop-of-length-le, List·getD-eq-default}
+use lib.ListN.{length, drop, getD, length-append, drop-of-length-le}
 use lib.Seq.{drop-cons, drop-drop, getD-drop, take-at, drop-append-add}
 use borrow.Author.Tests.{le-leb, lt-leb, lt-ltb, le-ltb, leb-true, leb-false, ne-eqb, eqb-true, ltb-true, ltb-false}
 use Rattle.little.specs.Read.{byteAt}
+use Rattle.little.proofs.LawRead.{byte-past}
 use Rattle.search.proofs.LawTest.{either-way, clash, and-left, or-left, or-right}
 use Rattle.numerals.specs.Numeral.{zeroDigit, point, valueOf}
 use Rattle.numerals.specs.Typed.{isDigit, allDigits, numberIn, wholeDigits, mostWhole, places, mostPlaces, asPlaces, placesIn, joined, decimalIn}
@@ -168,7 +169,7 @@ module _ (text : List ℕ) (at : ℕ) (d : Digits) (e : d ≡ digitsFrom text at
     pub inside : d .end < length text
     inside =
         either-way (ltb (d .end) (length text)) (λ h. ltb-true (d .end) (length text) h)
-        (λ h. absurd (omega (arith, is, List·getD-eq-default text 0 (ltb-false (d .end) (length text) h))))
+        (λ h. absurd (omega (arith, is, byte-past text (d .end) (ltb-false (d .end) (length text) h))))
 
     split : drop (d .end) text ≡ point ∷ drop (d .end + 1) text
     split = drop-cons text (d .end) 0 inside ∙ rw (add-one (d .end), is) refl

@@ -1,23 +1,29 @@
--- The order of keys, and what rising rows make of a search that halves.
-use Prim.Native.Nat.{ℕ, zero, suc, _+_, _*_, _-_, _≤_, _<_}
+-- The order of keys, and what rising rows make of a search.
+use Prim.Native.Nat.{ℕ, suc, _+_, _-_, _≤_, _<_}
 use mathlib.Core.Path.{_≡_, refl, sym, ap, _∙_}
-use mathlib.Core.Bool.{Bool, true, false, _&&_, _||_, and-false, or-false}
+use mathlib.Core.Bool.{Bool, true, false, _&&_, _||_}
 use mathlib.Core.List.{List, [], _∷_}
+use mathlib.Core.Logic.{_⊎_, inl, inr}
+use native.Mathlib.Nat.{eq-or-lt-of-le}
 use native.Mathlib.Omega.{arith}
-use borrow.Author.Tests.{ltb-true, ltb-false, eqb-true, eqb-false, lt-ltb, le-ltb, eq-eqb, ne-eqb}
+use borrow.Author.Tests.{ltb-true, eqb-true, lt-ltb, le-ltb, eq-eqb, ne-eqb}
 use lib.Dec.{ltb, eqb}
-use Rattle.little.specs.Read.{u16Range}
-use Rattle.search.specs.InnerCut.{Falls}
+use Rattle.search.specs.First.{first}
+use Rattle.search.specs.Order.{listOrder, isBefore, isSame}
 use Rattle.search.specs.Test.{every}
+use Rattle.search.specs.declared.found.Found.the-variants.{At, Nothing}
+use Rattle.search.specs.declared.order.Order.{Order}
+use Rattle.search.specs.declared.order.Order.the-variants.{Before, Same, After}
 use Rattle.search.proofs.LawTest.{either-way, and-left, and-right, every-at}
+use Rattle.search.proofs.LawFirst.{first-start, first-here, first-rest}
 use Rattle.search.proofs.LawCut.{rising}
+use Rattle.search.proofs.LawOrder.{before-first, same-first}
 use Rattle.desk.specs.Key.{keyFields, before, keyLess, keySame}
 use Rattle.headers.specs.Book.{rowCount}
 use Rattle.desk.specs.Book.{rowStart, keyAt, rises, rowOk, bookOk}
 use Rattle.desk.specs.Row.{rowHas}
-use Rattle.desk.specs.Inner.{rowBefore, Packs, packedLess, packedSame, rowFits}
+use Rattle.desk.specs.Inner.{atScale, keyOrder, rowFits}
 use Rattle.desk.specs.declared.key.Key.{Key}
-use Rattle.desk.specs.declared.key.Packed.{Packed}
 use Rattle.desk.proofs.LawBook.{row-good}
 
 -- ---- dictionary order
@@ -49,10 +55,6 @@ before-trans (a ∷ x) (b ∷ y) (c ∷ z) p q =
     let h : c ≤ a = omega (arith, s .0, t .0) in
     rw (le-ltb a c h, eq-eqb a c (s .0 ∙ t .0), before-trans x y z (s .1) (t .1))))
 
-before-irrefl : (x : List ℕ) → before x x ≡ false
-before-irrefl [] = refl
-before-irrefl (a ∷ x) = let h : a ≤ a = omega arith in rw (le-ltb a a h, eq-eqb a a refl, before-irrefl x)
-
 -- ---- keys
 
 less-trans : (x y z : Key) → keyLess x y ≡ true → keyLess y z ≡ true → keyLess x z ≡ true
@@ -80,104 +82,68 @@ apart c a k p q =
     (λ s. let z : true ≡ false = sym p ∙ ap (λ (l : List ℕ). before (keyFields c) l) (same-fields a k s) ∙ q in cc)
     (λ s. s)
 
-less-not-same : (a k : Key) → keyLess a k ≡ true → keySame a k ≡ false
-unfolding keyLess
-less-not-same a k h =
-    either-way (keySame a k)
-    (λ s. let z : true ≡ false = sym h ∙ ap (λ (l : List ℕ). before (keyFields a) l) (sym (same-fields a k s)) ∙ before-irrefl (keyFields a) in cc)
-    (λ s. s)
+-- ---- an order that is found field by field
 
--- ---- keys in two numbers
+before-is : (x y : List ℕ) → isBefore (listOrder x y) ≡ before x y
+unfolding listOrder
+before-is [] y = refl
+before-is (a ∷ x) [] = refl
+before-is (a ∷ x) (b ∷ y) = before-first a b x y ∙ ap (λ (t : Bool). ltb a b || eqb a b && t) (before-is x y)
 
--- where the heads are numbers to the base 65536 their last digits may as well stand for themselves
-digit : (x y a b : ℕ) (r : Bool) → y < u16Range → b < u16Range
-    → (ltb (x * u16Range + y) (a * u16Range + b) || eqb (x * u16Range + y) (a * u16Range + b) && r) ≡ (ltb x a || eqb x a && (ltb y b || eqb y b && r))
-digit x y a b r hy hb =
-    let p = x * u16Range + y in
-    let q = a * u16Range + b in
-    either-way (ltb x a)
-    (λ l. rw (l, lt-ltb p q (omega (arith, ltb-true x a l))))
-    (λ l. either-way (eqb x a)
-    (λ e.
-    let s : x ≡ a = eqb-true x a e in
-    rw (l, e)
-    (either-way (ltb y b)
-    (λ m. rw (m, lt-ltb p q (omega (arith, s, ltb-true y b m))))
-    (λ m. either-way (eqb y b)
-    (λ f. rw (m, f, le-ltb p q (omega (arith, s, eqb-true y b f)), eq-eqb p q (omega (arith, s, eqb-true y b f))))
-    (λ f.
-    let g : b < y = omega (arith, ltb-false y b m, eqb-false y b f) in
-    rw (m, f, le-ltb p q (omega (arith, s)), ne-eqb p q (λ z. omega (arith, s)))))))
-    (λ e.
-    let g : a < x = omega (arith, ltb-false x a l, eqb-false x a e) in
-    rw (l, e, le-ltb p q (omega arith), ne-eqb p q (λ z. omega arith))))
+pub less-is : (a k : Key) → isBefore (keyOrder a k) ≡ keyLess a k
+unfolding keyOrder keyLess
+less-is a k = before-is (keyFields a) (keyFields k)
 
--- the same of the last number that is compared
-last-digit : (x y a b : ℕ) → y < u16Range → b < u16Range
-    → ltb (x * u16Range + y) (a * u16Range + b) ≡ (ltb x a || eqb x a && (ltb y b || eqb y b && false))
-last-digit x y a b hy hb =
-    let p = x * u16Range + y in
-    let q = a * u16Range + b in
-    let e : ltb p q ≡ (ltb p q || eqb p q && false) = rw (and-false, or-false) in
-    e ∙ digit x y a b false hy hb
+-- the same up to the end of the shorter
+abbrev alike : List ℕ → List ℕ → Bool
+alike [] y = true
+alike (a ∷ x) [] = true
+alike (a ∷ x) (b ∷ y) = eqb a b && alike x y
 
-pub packed-is : (k l : Key) (p q : Packed) → Packs k p → Packs l q → packedLess p q ≡ keyLess k l
-unfolding keyLess
-packed-is k l p q K L =
-    let tail = before (k .scale ∷ k .medium ∷ k .pollutant ∷ []) (l .scale ∷ l .medium ∷ l .pollutant ∷ []) in
-    let two = ltb (k .pollutant) (l .pollutant) || eqb (k .pollutant) (l .pollutant) && false in
-    let low : ltb ((k .scale * u16Range + k .medium) * u16Range + k .pollutant) ((l .scale * u16Range + l .medium) * u16Range + l .pollutant) ≡ tail =
-    last-digit (k .scale * u16Range + k .medium) (k .pollutant) (l .scale * u16Range + l .medium) (l .pollutant) (K .pollutant) (L .pollutant)
-    ∙ digit (k .scale) (k .medium) (l .scale) (l .medium) two (K .medium) (L .medium) in
-    let four = ltb (k .process) (l .process) || eqb (k .process) (l .process) && tail in
-    let three = ltb (k .material) (l .material) || eqb (k .material) (l .material) && four in
-    let x = k .industry * u16Range + k .product in
-    let y = l .industry * u16Range + l .product in
-    rw (K .place, K .rest, L .place, L .rest, low)
-    (digit (x * u16Range + k .material) (k .process) (y * u16Range + l .material) (l .process) tail (K .process) (L .process)
-    ∙ digit x (k .material) y (l .material) four (K .material) (L .material)
-    ∙ digit (k .industry) (k .product) (l .industry) (l .product) three (K .product) (L .product))
+alike-is : (x y : List ℕ) → isSame (listOrder x y) ≡ alike x y
+unfolding listOrder
+alike-is [] y = refl
+alike-is (a ∷ x) [] = refl
+alike-is (a ∷ x) (b ∷ y) = same-first a b x y ∙ ap (λ (t : Bool). eqb a b && t) (alike-is x y)
 
--- two numbers to the base 65536 are the same where their heads and their last digits are
-same-digit : (x y a b : ℕ) → y < u16Range → b < u16Range → eqb (x * u16Range + y) (a * u16Range + b) ≡ (eqb x a && eqb y b)
-same-digit x y a b hy hb =
-    let p = x * u16Range + y in
-    let q = a * u16Range + b in
-    either-way (eqb x a)
-    (λ e. either-way (eqb y b)
-    (λ f. rw (e, f, eq-eqb p q (omega (arith, eqb-true x a e, eqb-true y b f))))
-    (λ f. rw (e, f, ne-eqb p q (λ z. absurd (eqb-false y b f (omega (arith, eqb-true x a e)))))))
-    (λ e. rw (e, ne-eqb p q (λ z. absurd (eqb-false x a e (omega arith)))))
+regroup : (a b c d e f g : Bool) → (a && (b && (c && (d && (e && (f && (g && true))))))) ≡ (a && b && c && d && e && f && g)
+regroup false b c d e f g = refl
+regroup true false c d e f g = refl
+regroup true true false d e f g = refl
+regroup true true true false e f g = refl
+regroup true true true true false f g = refl
+regroup true true true true true false g = refl
+regroup true true true true true true false = refl
+regroup true true true true true true true = refl
 
-regroup : (a b c d : Bool) → (a && (b && c && d)) ≡ (a && b && c && d)
-regroup true b c d = refl
-regroup false b c d = refl
+pub same-is : (a k : Key) → isSame (keyOrder a k) ≡ keySame a k
+unfolding keyOrder keySame every
+same-is a k =
+    alike-is (keyFields a) (keyFields k)
+    ∙ regroup (eqb (a .industry) (k .industry)) (eqb (a .product) (k .product)) (eqb (a .material) (k .material)) (eqb (a .process) (k .process))
+    (eqb (a .scale) (k .scale)) (eqb (a .medium) (k .medium)) (eqb (a .pollutant) (k .pollutant))
 
-pub packed-same-is : (k l : Key) (p q : Packed) → Packs k p → Packs l q → packedSame p q ≡ keySame k l
-unfolding keySame every
-packed-same-is k l p q K L =
-    let x = k .industry * u16Range + k .product in
-    let y = l .industry * u16Range + l .product in
-    rw (
-      K .place,
-      K .rest,
-      L .place,
-      L .rest,
-      same-digit (x * u16Range + k .material) (k .process) (y * u16Range + l .material) (l .process) (K .process) (L .process),
-      same-digit x (k .material) y (l .material) (K .material) (L .material),
-      same-digit (k .industry) (k .product) (l .industry) (l .product) (K .product) (L .product),
-      same-digit (k .scale * u16Range + k .medium) (k .pollutant) (l .scale * u16Range + l .medium) (l .pollutant) (K .pollutant) (L .pollutant),
-      same-digit (k .scale) (k .medium) (l .scale) (l .medium) (K .medium) (L .medium),
-    )
-    (regroup (eqb (k .industry) (l .industry) && eqb (k .product) (l .product) && eqb (k .material) (l .material) && eqb (k .process) (l .process)) _ _ _)
+-- a key that stands before another is not the same
+less-other : (a k : Key) → keyLess a k ≡ true → keySame a k ≡ false
+less-other a k h = sym (same-is a k) ∙ not-same (keyOrder a k) (less-is a k ∙ h)
+  where
+    not-same : (o : Order) → isBefore o ≡ true → isSame o ≡ false
+    not-same Before e = refl
+    not-same Same e = cc
+    not-same After e = cc
 
--- a row's test by itself and by the key that was kept of the row before it
-pub row-by-kept : (b t : List ℕ) (i : ℕ) (last key : Packed) → (0 < i → Packs (keyAt b (rowStart b (i - 1))) last) → Packs (keyAt b (rowStart b i)) key
-    → (rowFits b t (rowStart b i) && (eqb i 0 || packedLess last key)) ≡ rowOk b t i
-unfolding every rowOk rowFits rises
-row-by-kept b t zero last key L K = refl
-row-by-kept b t (suc i) last key L K =
-    rw (ne-eqb (suc i) 0 (λ q. omega arith), packed-is (keyAt b (rowStart b (suc i - 1))) (keyAt b (rowStart b (suc i))) last key (L (omega arith)) K)
+-- a row's key held, and the row before it compared with it
+pub rises-by : (b : List ℕ) (i at : ℕ) (key : Key) {o : Order} → (i ≡ 0 → ⊥) → at ≡ rowStart b i → key ≡ keyAt b at
+    → keyOrder (keyAt b (at - 24)) (atScale key (key .scale)) ≡ o → isBefore o ≡ rises b i
+unfolding rises atScale
+rises-by b i at key {o} some start held h =
+    let back : at - 24 ≡ rowStart b (i - 1) = omega (arith, start, some) in
+    rw (ne-eqb i 0 some) (sym (ap isBefore h) ∙ less-is (keyAt b (at - 24)) key ∙ (rw (back, held, start)))
+
+-- a row's test is that of the row by itself, and that it stands after the one before it
+pub row-by-parts : (b t : List ℕ) (i : ℕ) → (rowFits b t (rowStart b i) && rises b i) ≡ rowOk b t i
+unfolding every rowOk rowFits
+row-by-parts b t i = refl
 
 -- ---- the rows of a good book
 
@@ -194,17 +160,29 @@ module _ (b : List ℕ) (good : bookOk b ≡ true) where
       let key : ℕ → Key = λ i. keyAt b (rowStart b i) in
       rising (λ i j. keyLess (key i) (key j) ≡ true) (λ i j k. less-trans (key i) (key j) (key k)) (rowCount b) row-rises
 
-  -- rows that stand before a key are those before some row
-  pub rows-fall : (k : Key) → Falls (rowCount b) (rowBefore b k)
-  unfolding rowBefore
-  rows-fall k i j lt m e = less-trans (keyAt b (rowStart b i)) (keyAt b (rowStart b j)) k (rows-rise i j lt m) e
+  module _ (k : Key) (i : ℕ) (l : i < rowCount b) where
+    abbrev stands : Order
+    stands = keyOrder (keyAt b (rowStart b i)) k
 
-  -- a row that stands before a key has not that key
-  pub before-other : (k : Key) (i : ℕ) → rowBefore b k i ≡ true → rowHas b k i ≡ false
-  unfolding rowBefore rowHas
-  before-other k i e = less-not-same (keyAt b (rowStart b i)) k e
+    -- a row that stands before a key has it not, and none before that row has
+    pub passed : stands ≡ Before → first (i + 1) (rowHas b k) ≡ Nothing
+    unfolding rowHas
+    passed h = first-rest (rowHas b k) 0 (i + 1) (first-start _) (omega arith) (λ j z m. other j (eq-or-lt-of-le (omega arith)))
+      where
+        other : (j : ℕ) → (j ≡ i) ⊎ (j < i) → rowHas b k j ≡ false
+        other j (inl q) = rw q (sym (same-is _ k) ∙ ap isSame h)
+        other j (inr m) = less-other (keyAt b (rowStart b j)) k (less-trans _ _ k (rows-rise j i m l) (sym (less-is _ k) ∙ ap isBefore h))
 
-  -- nor has a row past one that does not stand before it
-  pub past-other : (k : Key) (r : ℕ) → rowBefore b k r ≡ false → (i : ℕ) → r < i → i < rowCount b → rowHas b k i ≡ false
-  unfolding rowBefore rowHas
-  past-other k r e i lt m = apart (keyAt b (rowStart b r)) (keyAt b (rowStart b i)) k (rows-rise r i lt m) e
+    -- a row that has the key is the first, where none before it has
+    pub here : first i (rowHas b k) ≡ Nothing → stands ≡ Same → At i ≡ first (rowCount b) (rowHas b k)
+    unfolding rowHas
+    here none h = first-here (rowHas b k) i (rowCount b) none (sym (same-is _ k) ∙ ap isSame h) l
+
+    -- past a row that stands after a key no row has it
+    pub ended : first i (rowHas b k) ≡ Nothing → stands ≡ After → Nothing ≡ first (rowCount b) (rowHas b k)
+    unfolding rowHas
+    ended none h = sym (first-rest (rowHas b k) i (rowCount b) none (omega arith) (λ j z m. other j (eq-or-lt-of-le z) m))
+      where
+        other : (j : ℕ) → (i ≡ j) ⊎ (i < j) → j < rowCount b → rowHas b k j ≡ false
+        other j (inl q) m = rw (← q) (sym (same-is _ k) ∙ ap isSame h)
+        other j (inr lt) m = apart (keyAt b (rowStart b i)) (keyAt b (rowStart b j)) k (rows-rise i j lt m) (sym (less-is _ k) ∙ ap isBefore h)

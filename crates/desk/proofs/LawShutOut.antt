@@ -1,6 +1,6 @@
 -- What the promise shuts out, on a small book, two small sheets and a bundle: versions that refuse everything, do nothing, have one constant
--- table, copy line 1 down, show zeros, or give one sheet's outcome to all do not meet it.
-use Prim.Native.Nat.{ℕ, _+_, _<_}
+-- table, copy line 1 down, show zeros, miss a row, or give one sheet's outcome to all do not meet it.
+use Prim.Native.Nat.{ℕ, _+_, _-_, _<_}
 use mathlib.Core.Path.{_≡_, refl, sym, ap, _∙_}
 use mathlib.Core.Bool.{true}
 use mathlib.Core.List.{List, [], _∷_, _++_}
@@ -19,9 +19,9 @@ use Rattle.amounts.specs.Line.{removedOf, reusedOf, dischargedOf}
 use Rattle.settle.specs.Shown.{at}
 use Rattle.headers.specs.House.{fileOk}
 use Rattle.desk.specs.Key.{keyFrom, keySame}
-use Rattle.headers.specs.Book.{bookHeaderOk}
-use Rattle.desk.specs.Book.{bookOk, rowOk, fieldsOk, coefficientAt, techniquesOk, rises}
-use Rattle.desk.specs.Row.{rowHas, rowIndex, rowAt, rowOf}
+use Rattle.headers.specs.Book.{rowCount, bookHeaderOk}
+use Rattle.desk.specs.Book.{bookOk, rowStart, keyAt, rowOk, fieldsOk, coefficientAt, techniquesOk, rises}
+use Rattle.desk.specs.Row.{rowHas, rowIndex, rowAt, rowFrom, rowOf}
 use Rattle.headers.specs.Sheet.{sheetHeaderOk, lineCount}
 use Rattle.desk.specs.Sheet.{sheetOk, lineOk}
 use Rattle.desk.specs.Line.{readingAt, lineOf}
@@ -33,6 +33,8 @@ use Rattle.desk.specs.Table.{rows, total, tableOf, byFiles, byLines, ans
 use Rattle.desk.specs.Declare.{Declared}
 use Rattle.desk.specs.Works.{Results, results, BundleDeclared}
 use Rattle.desk.specs.declared.line.Line.{Line}
+use Rattle.desk.specs.declared.row.RowSearch.{RowSearch}
+use Rattle.desk.specs.declared.row.RowSearch.the-variants.{Hit, Miss}
 use Rattle.desk.specs.declared.account.LineOutcome.the-variants.{Refusal}
 use Rattle.answers.specs.declared.answer.LineFault.the-variants.{ActivityTooLarge, ReuseTooLarge}
 use Rattle.answers.specs.declared.answer.Outcome.{Outcome}
@@ -123,6 +125,12 @@ constant-table r q x y z p h =
     ∙ worked .3 in
     let e : at x 0 ≡ 300000 = ap (λ (t : List ℕ). at t 0) three in
     omega (arith, cell r x y p 0)
+
+-- one whose row search stops one row early: it misses the one row of this book
+pub one-row-early : let key = keyAt book (rowStart book 0) in
+    (r : RowSearch) → r ≡ rowFrom book (first (rowCount book - 1) (rowHas book key)) → r ≡ rowOf book key → ⊥
+unfolding rowOf rowIndex first rowHas keySame every keyFrom u16At u32At
+one-row-early r early meant = let e : Miss ≡ Hit (rowAt book 0) = sym early ∙ meant in clash (cc)
 
 -- one that looks at the reuse before the masses: where these are too large the refusal is theirs, whatever the reuse
 pub reuse-first : (b : List ℕ) (line : Line) → excessive line ≡ true → accountOf b line ≡ Refusal ReuseTooLarge → ⊥

@@ -1,21 +1,23 @@
 -- What private functions ask and answer, beside what a promise says. Nothing here is needed to read a promise.
 use Prim.Native.Nat.{ℕ, _+_, _*_, _≤_, _<_}
 use mathlib.Core.Path.{_≡_}
-use mathlib.Core.Bool.{Bool, true, cond, _&&_, _||_}
+use mathlib.Core.Bool.{Bool, true, cond}
 use mathlib.Core.List.{List, [], _∷_, _++_}
-use lib.Dec.{leb, ltb, eqb}
+use lib.Dec.{leb, ltb}
 use lib.ListN.{length, take, drop}
 use Rattle.amounts.specs.Line.{wholeShare}
 use Rattle.little.specs.Read.{u16Range}
-use Rattle.search.specs.InnerCut.{Cut}
+use Rattle.search.specs.First.{first}
+use Rattle.search.specs.Order.{listOrder}
 use Rattle.search.specs.Test.{every}
+use Rattle.search.specs.declared.found.Found.the-variants.{Nothing}
+use Rattle.search.specs.declared.order.Order.{Order}
 use Rattle.settle.specs.Shown.{at}
 use Rattle.settle.specs.Table.{Good}
 use Rattle.settle.specs.Step.{shownTable}
-use Rattle.desk.specs.Key.{keyLess}
+use Rattle.desk.specs.Key.{keyFields}
 use Rattle.headers.specs.Book.{bookHeader, rowCount, techniqueCount, techniqueSize}
-use Rattle.desk.specs.Book.{rowStart, keyAt, fieldsAt, techniqueCode}
-use Rattle.desk.specs.Book.{techniqueEfficiency, techniquesOk}
+use Rattle.desk.specs.Book.{fieldsAt, techniqueCode, techniqueEfficiency, techniquesOk}
 use Rattle.desk.specs.Book.{fieldsOk, coefficientAt, mostCoefficient, bookOk}
 use Rattle.desk.specs.Row.{rowHas}
 use Rattle.headers.specs.Sheet.{lineCount, lineSize, mostLines}
@@ -28,7 +30,6 @@ use Rattle.desk.specs.Table.{bySheet, byLines, cellsAfter}
 use Rattle.desk.specs.Demands.{tableGrid, Demand3}
 use Rattle.desk.specs.Declare.{BothAfter}
 use Rattle.desk.specs.declared.key.Key.{Key}
-use Rattle.desk.specs.declared.key.Packed.{Packed}
 use Rattle.desk.specs.declared.line.Line.{Line}
 use Rattle.desk.specs.declared.row.Row.{Row}
 use Rattle.desk.specs.declared.row.RowSearch.{RowSearch}
@@ -63,19 +64,9 @@ pub record LineThere (s : List ℕ) (i : ℕ) : Type 0 where
   pub small : i < counted
   pub lies : LineIn s (lineStart s i)
 
--- ---- a key in two numbers
+-- ---- a key
 
--- the first four fields in one number and the last three in another, the first on top
-pub record Packs (k : Key) (p : Packed) : Type 0 where
-  pub place : p .place ≡ ((k .industry * u16Range + k .product) * u16Range + k .material) * u16Range + k .process
-  pub rest : p .rest ≡ (k .scale * u16Range + k .medium) * u16Range + k .pollutant
-  pub product : k .product < u16Range
-  pub material : k .material < u16Range
-  pub process : k .process < u16Range
-  pub medium : k .medium < u16Range
-  pub pollutant : k .pollutant < u16Range
-
--- what can be packed: every field is a u16
+-- its fields stand in a row and in a line as u16, or as a byte
 pub record SmallKey (k : Key) : Type 0 where
   pub industry : k .industry < u16Range
   pub product : k .product < u16Range
@@ -85,16 +76,31 @@ pub record SmallKey (k : Key) : Type 0 where
   pub medium : k .medium < u16Range
   pub pollutant : k .pollutant < u16Range
 
--- r is the key that is meant, and it can be packed
+-- r is the key that is meant, and its fields are small
 pub record ReadsKey (r meant : Key) : Type 0 where
   pub eq : r ≡ meant
   pub small : SmallKey r
 
-abbrev pub packedLess : Packed → Packed → Bool
-packedLess a b = ltb (a .place) (b .place) || eqb (a .place) (b .place) && ltb (a .rest) (b .rest)
+-- the key with another scale
+unfoldable pub atScale : (k : Key) (scale : ℕ) → Key
+atScale k scale =
+    record {
+      industry = k .industry;
+      product = k .product;
+      material = k .material;
+      process = k .process;
+      scale = scale;
+      medium = k .medium;
+      pollutant = k .pollutant;
+    }
 
-abbrev pub packedSame : Packed → Packed → Bool
-packedSame a b = eqb (a .place) (b .place) && eqb (a .rest) (b .rest)
+-- the last three of its fields
+abbrev pub restFields : Key → List ℕ
+restFields k = k .scale ∷ k .medium ∷ k .pollutant ∷ []
+
+-- how one key stands to another
+unfoldable pub keyOrder : Key → Key → Order
+keyOrder a k = listOrder (keyFields a) (keyFields k)
 
 -- ---- a row by itself
 
@@ -109,20 +115,10 @@ rowFits b t at =
 
 -- ---- the row search
 
--- row i stands before this key
-unfoldable pub rowBefore : (b : List ℕ) (k : Key) (i : ℕ) → Bool
-rowBefore b k i = keyLess (keyAt b (rowStart b i)) k
-
--- the answer r of a test of row i for the key that is packed so: whether the row stands before it, and whether the row has it
-abbrev pub PackedBefore : (b : List ℕ) (p : Packed) (i : ℕ) (r : Bool) → Type 0
-PackedBefore b p i r = (k : Key) → Packs k p → r ≡ rowBefore b k i
-
-abbrev pub PackedHas : (b : List ℕ) (p : Packed) (i : ℕ) (r : Bool) → Type 0
-PackedHas b p i r = (k : Key) → Packs k p → r ≡ rowHas b k i
-
--- the rows below `low` stand before that key, and none from `high` on does
-abbrev pub PackedCut : (b : List ℕ) (p : Packed) (low high : ℕ) → Type 0
-PackedCut b p low high = (k : Key) → Packs k p → Cut (rowCount b) (rowBefore b k) low high
+-- there are so many rows, and none of the first n has this key
+pub record Passed (b : List ℕ) (k : Key) (n : ℕ) : Type 0 where
+  pub within : n ≤ rowCount b
+  pub none : first n (rowHas b k) ≡ Nothing
 
 -- ---- the technique search
 
@@ -154,7 +150,7 @@ pub record FindsRow (r meant : RowSearch) : Type 0 where
 
 -- ---- a line
 
--- r is the line that is meant, and its key can be packed
+-- r is the line that is meant, and its key is small
 pub record ReadsLine (r meant : Line) : Type 0 where
   pub eq : r ≡ meant
   pub small : SmallKey (r .key)

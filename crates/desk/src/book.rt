@@ -5,17 +5,15 @@ ghost use Prim.Native.Nat.{_<_, _≤_, _^_};
 ghost use lib.ListN.{length};
 ghost use Rattle.little.specs.Read.{Reads};
 ghost use Rattle.headers.specs.Book.{techniqueCount, bookHeaderOk, techniqueBlock};
-ghost use Rattle.desk.specs.Book.{rowStart, keyAt, fieldsOk, coefficientAt, rowsOk, bookOk};
-ghost use Rattle.desk.specs.Inner.{counted, farthest, RowIn, Packs, ReadsKey, rowFits};
+ghost use Rattle.desk.specs.Book.{rowStart, keyAt, fieldsOk, coefficientAt, rises, rowsOk, bookOk};
+ghost use Rattle.search.specs.Order.{listOrder};
+ghost use Rattle.desk.specs.Inner.{counted, farthest, RowIn, ReadsKey, atScale, restFields, keyOrder, rowFits};
 ghost use Rattle.desk.specs.InnerRun.{Runs};
 use super::inside::byte_in;
 use super::inside::u16_in;
 use super::inside::u32_in;
 use super::key::Key;
-use super::key::Packed;
 use super::key::key_from;
-use super::key::pack;
-use super::key::packed_less;
 use super::run::fill_runs;
 use super::run::list_ok;
 use headers::book::MOST_TECHNIQUES;
@@ -25,6 +23,8 @@ use headers::book::row_count;
 use headers::book::row_offset;
 use headers::book::technique_block;
 use headers::book::technique_count;
+use search::order::Order;
+use search::order::order_of;
 
 // Units per kilogram, at most.
 pub const MOST_COEFFICIENT: usize = 100_000_000;
@@ -43,11 +43,45 @@ fn key_at(b: &[u8], at: usize) -> Key
     key_from(b, at, byte_in(b, at, 10), byte_in(b, at, 11))
 }
 
-pub(crate) fn packed_at(b: &[u8], at: usize) -> Packed
+// How the last three fields of a row's key stand to these, the line's medium and pollutant among them.
+fn rest_order(b: &[u8], at: usize, k: Key, scale: usize) -> Order
     requires { ⌜ RowIn (now b) at ⌝ }
-    ensures { λ r. ⌜ Packs (keyAt (now (b .entry)) at) r ⌝ }
+    ensures { λ r. ⌜ r ≡ listOrder (restFields (keyAt (now (b .entry)) at)) (restFields (atScale k scale)) ⌝ }
 {
-    pack(key_at(b, at))
+    let row_scale = u16_in(b, at, 8);
+    if row_scale != scale {
+        return order_of(row_scale, scale);
+    }
+    let medium = byte_in(b, at, 10);
+    if medium != k.medium {
+        return order_of(medium, k.medium);
+    }
+    order_of(byte_in(b, at, 11), k.pollutant)
+}
+
+// How the key of the row that starts at `at` stands to this key with this scale. It is compared where it stands, field by field, and nothing
+// is read past the first field that differs.
+pub(crate) fn row_order(b: &[u8], at: usize, k: Key, scale: usize) -> Order
+    requires { ⌜ RowIn (now b) at ⌝ }
+    ensures { λ r. ⌜ r ≡ keyOrder (keyAt (now (b .entry)) at) (atScale k scale) ⌝ }
+{
+    let industry = u16_in(b, at, 0);
+    if industry != k.industry {
+        return order_of(industry, k.industry);
+    }
+    let product = u16_in(b, at, 2);
+    if product != k.product {
+        return order_of(product, k.product);
+    }
+    let material = u16_in(b, at, 4);
+    if material != k.material {
+        return order_of(material, k.material);
+    }
+    let process = u16_in(b, at, 6);
+    if process != k.process {
+        return order_of(process, k.process);
+    }
+    rest_order(b, at, k, scale)
 }
 
 fn fields_ok(b: &[u8], at: usize) -> bool
@@ -116,21 +150,33 @@ fn row_fits(b: &[u8], runs: &[u16], size: usize, at: usize) -> bool
     }
 }
 
-// Each row's key is kept for the row after it, so that none is read twice.
+// Whether row i, which starts at `at`, has a key above that of the row before it. The first has none before it.
+fn row_rises(b: &[u8], i: usize, at: usize) -> bool
+    requires { ⌜ RowIn (now b) at × (at ≡ rowStart (now b) i) ⌝ }
+    ensures { λ r. ⌜ r ≡ rises (now (b .entry)) i ⌝ }
+{
+    if i == 0 {
+        return true;
+    }
+    let key = key_at(b, at);
+    match row_order(b, at - ROW_SIZE, key, key.scale) {
+        Order::Before => true,
+        Order::Same => false,
+        Order::After => false,
+    }
+}
+
 fn rows_ok(b: &[u8], runs: &[u16]) -> bool
     requires { ⌜ (bookHeaderOk (now b) ≡ true) × Runs (techniqueBlock (now b)) (techniqueCount (now b)) (now runs) ⌝ }
     ensures { λ r. ⌜ r ≡ rowsOk (now (b .entry)) ⌝ }
 {
     let rows = row_count(b);
     let size = technique_count(b);
-    let mut last = Packed { place: 0, rest: 0 };
     let mut at = row_offset(b);
     let mut i = 0;
     while i < rows {
         let fits = row_fits(b, runs, size, at);
-        let key = packed_at(b, at);
-        if fits & ((i == 0) | packed_less(last, key)) {
-            last = key;
+        if fits & row_rises(b, i, at) {
             at += ROW_SIZE;
             i += 1;
         } else {

@@ -5,21 +5,20 @@ ghost use Prim.Native.Nat.{_<_};
 ghost use Rattle.search.specs.First.{Finds, first};
 ghost use Rattle.headers.specs.Book.{rowCount};
 ghost use Rattle.desk.specs.Book.{rowStart, fieldsOk, bookOk};
-ghost use Rattle.desk.specs.Inner.{counted, RowIn, SmallKey, PackedBefore, PackedCut, PackedHas, ReadsRow, FindsRow};
+ghost use Rattle.desk.specs.Inner.{counted, RowIn, SmallKey, atScale, Passed, ReadsRow, FindsRow};
 ghost use Rattle.desk.specs.Row.{rowHas, rowIndex, rowAt, rowOf};
 use super::book::coefficient_at;
-use super::book::packed_at;
+use super::book::row_order;
 use super::book::row_start;
 use super::inside::byte_in;
 use super::inside::u16_in;
+use super::key::ALL_SCALES;
 use super::key::Key;
-use super::key::Packed;
-use super::key::all_scales;
-use super::key::pack;
-use super::key::packed_less;
-use super::key::packed_same;
+use headers::book::ROW_SIZE;
 use headers::book::row_count;
+use headers::book::row_offset;
 use search::found::Found;
+use search::order::Order;
 
 // What a line is accounted for by: units per kilogram, and the list of techniques in the block.
 pub struct Row {
@@ -35,60 +34,58 @@ pub enum RowSearch {
     Miss,
 }
 
-fn row_has(b: &[u8], wanted: Packed, i: usize) -> bool
-    requires { ⌜ (i < counted) × RowIn (now b) (rowStart (now b) i) ⌝ }
-    ensures { λ r. ⌜ PackedHas (now (b .entry)) wanted i r ⌝ }
-{
-    packed_same(packed_at(b, row_start(b, i)), wanted)
-}
+// So many rows are looked at one after the other, as that is no slower than halving them.
+const FEW_ROWS: usize = 8;
 
-fn row_before(b: &[u8], wanted: Packed, i: usize) -> bool
-    requires { ⌜ (i < counted) × RowIn (now b) (rowStart (now b) i) ⌝ }
-    ensures { λ r. ⌜ PackedBefore (now (b .entry)) wanted i r ⌝ }
-{
-    packed_less(packed_at(b, row_start(b, i)), wanted)
-}
-
-// How many rows stand before the key: rows rise, so that half of those in question fall away at each turn.
-fn rows_before(b: &[u8], wanted: Packed) -> usize
+// How many rows, from the first on, are known not to have the key: rows rise, so that half of those in question fall away at each turn,
+// until few are left.
+fn rows_passed(b: &[u8], k: Key, scale: usize) -> usize
     requires { ⌜ bookOk (now b) ≡ true ⌝ }
-    ensures { λ r. ⌜ PackedCut (now (b .entry)) wanted r r ⌝ }
+    ensures { λ r. ⌜ Passed (now (b .entry)) (atScale k scale) r ⌝ }
 {
+    let from = row_offset(b);
     let mut low = 0;
     let mut high = row_count(b);
-    while low < high {
+    while FEW_ROWS < high - low {
         let middle = low + (high - low) / 2;
-        if row_before(b, wanted, middle) {
-            low = middle + 1;
-        } else {
-            high = middle;
+        match row_order(b, from + ROW_SIZE * middle, k, scale) {
+            Order::Before => low = middle + 1,
+            Order::Same => high = middle,
+            Order::After => high = middle,
         }
     }
     low
 }
 
-fn index_of(b: &[u8], k: Key) -> Found
-    requires { ⌜ (bookOk (now b) ≡ true) × SmallKey k ⌝ }
-    ensures { λ r. ⌜ Finds r (first (rowCount (now (b .entry))) (rowHas (now (b .entry)) k)) counted ⌝ }
+// The scan ends at the key itself, or at the first larger one.
+fn index_of(b: &[u8], k: Key, scale: usize) -> Found
+    requires { ⌜ bookOk (now b) ≡ true ⌝ }
+    ensures { λ r. ⌜ Finds r (first (rowCount (now (b .entry))) (rowHas (now (b .entry)) (atScale k scale))) counted ⌝ }
 {
-    let wanted = pack(k);
-    let i = rows_before(b, wanted);
-    if i < row_count(b) {
-        if row_has(b, wanted, i) {
-            return Found::At(i);
+    let rows = row_count(b);
+    let mut i = rows_passed(b, k, scale);
+    let mut at = row_start(b, i);
+    while i < rows {
+        match row_order(b, at, k, scale) {
+            Order::Before => {
+                at += ROW_SIZE;
+                i += 1;
+            }
+            Order::Same => return Found::At(i),
+            Order::After => return Found::Nothing,
         }
     }
     Found::Nothing
 }
 
+// The line's key is held once: for all scales another scale is compared in the place of its own.
 fn row_index(b: &[u8], k: Key) -> Found
-    requires { ⌜ (bookOk (now b) ≡ true) × SmallKey k ⌝ }
+    requires { ⌜ bookOk (now b) ≡ true ⌝ }
     ensures { λ r. ⌜ Finds r (rowIndex (now (b .entry)) k) counted ⌝ }
 {
-    let any = all_scales(k);
-    match index_of(b, k) {
+    match index_of(b, k, k.scale) {
         Found::At(i) => Found::At(i),
-        Found::Nothing => index_of(b, any),
+        Found::Nothing => index_of(b, k, ALL_SCALES),
     }
 }
 

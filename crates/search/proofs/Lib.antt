@@ -1,3 +1,4 @@
 pub mod LawTest
 pub mod LawFirst
 pub mod LawCut
+pub mod LawOrder

@@ -1,46 +1,63 @@
--- The row at the cut has the key, or none has: the rows below stand before it, and those above past it.
-use mathlib.Core.Path.{sym, _∙_}
+-- The invariant: none of the rows before i, which starts at `at`, has the key.
+use Prim.Native.Nat.{_-_, _<_}
+use mathlib.Core.Path.{_≡_, sym, _∙_}
 use native.Mathlib.Omega.{arith}
 use borrow.Author.Needs.{needs}
-use Rattle.search.proofs.LawCut.{cut-here, cut-other, cut-none}
+use Rattle.search.proofs.LawFirst.{first-done}
+use Rattle.headers.specs.Book.{bookHeader}
+use Rattle.desk.specs.Book.{rowStart}
+use Rattle.desk.specs.Inner.{atScale, Passed, farthest}
 use Rattle.desk.proofs.LawBook.{good-row-in}
-use Rattle.desk.proofs.LawOrder.{before-other, past-other}
+use Rattle.desk.proofs.LawOrder.{passed, here, ended}
 use Rattle.desk.proofs.row.index_of.Statement.{statement}
 use Rattle.desk.proofs.row.index_of.Tie as tie
 
-pack-requires : tie.Need-pack-requires
-pack-requires c κs = c .before .pre .1
+abbrev Inv-loop : tie.InvT-loop
+Inv-loop b k scale rows i₀ at₀ i at = Passed b (atScale k scale) i × (at ≡ rowStart b i) × (bookHeader b .rowOffset < farthest)
 
-rows-before-requires : tie.Need-rows-before-requires
-rows-before-requires c κs = c .before .before .pre .0
+abbrev μ-loop : tie.MeasureT-loop
+μ-loop b k scale rows i₀ at₀ i at = rows - i
 
-row-has-requires : tie.Need-row-has-requires
-row-has-requires c κs =
-    let below = rw (c .before .row-count .ensures .eq) at (c .if1 .taken) in
-    (search needs, good-row-in _ (c .before .before .before .before .before .pre .0) _ below)
+row-start-requires : tie.Need-row-start-requires Inv-loop μ-loop
+row-start-requires c κs = omega (arith, c .before .row-count .ensures, c .rows-passed .ensures .within)
 
-returns : tie.Need-returns
+add-at : tie.Need-add-at Inv-loop μ-loop
+add-at c = omega (arith, c .before .before .before .before .loop .inv .1, c .before .before .before .before .loop .inv .2, c .before .before .before .before .before .before .before .row-count .ensures .small, c .before .before .before .loop-test .taken)
+
+loop-holds : tie.Need-loop-holds Inv-loop μ-loop
+loop-holds c = (c .before .rows-passed .ensures, c .row-start .ensures .eq, omega (arith, c .row-start .ensures .eq, c .row-start .ensures .small))
+
+row-order-requires : tie.Need-row-order-requires Inv-loop μ-loop
+row-order-requires c κs =
+    let below = rw (c .before .before .before .before .row-count .ensures .eq) at (c .loop-test .taken) in
+    rw (c .before .loop .inv .1) (good-row-in _ (c .before .before .before .before .before .before .pre) _ below)
+
+loop-again : tie.Need-loop-again Inv-loop μ-loop
+loop-again c =
+    let below = rw (c .before .before .before .before .before .before .before .row-count .ensures .eq) at (c .before .before .before .loop-test .taken) in
+    let stands = rw (c .before .before .before .before .loop .inv .1) at (sym (c .before .before .row-order .ensures) ∙ c .enum-told .given .1) in
+    (record { within = omega arith; none = passed _ (c .before .before .before .before .before .before .before .before .before .pre) _ _ below stands }, omega (arith, c .before .before .before .before .loop .inv .1), c .before .before .before .before .loop .inv .2)
+
+returns : tie.Need-returns Inv-loop μ-loop
 returns c =
-    let good = c .before .before .before .before .before .before .before .pre .0 in
-    let below = rw (c .before .before .before .row-count .ensures .eq) at (c .before .before .if1 .taken) in
-    let cut = c .before .before .before .before .rows-before .ensures _ (c .before .before .before .before .before .pack .ensures) in
-    record { eq = cut-here cut _ (before-other _ good _) below (sym (c .before .row-has .ensures _ (c .before .before .before .before .before .pack .ensures)) ∙ c .if2 .taken); below = omega arith }
+    let below = rw (c .before .before .before .before .before .before .before .row-count .ensures .eq) at (c .before .before .before .loop-test .taken) in
+    let stands = rw (c .before .before .before .before .loop .inv .1) at (sym (c .before .before .row-order .ensures) ∙ c .enum-told2 .given .1) in
+    record { eq = here _ (c .before .before .before .before .before .before .before .before .before .pre) _ _ below (c .before .before .before .before .loop .inv .0 .none) stands; below = omega arith }
 
-returns-2 : tie.Need-returns-2
+returns-2 : tie.Need-returns-2 Inv-loop μ-loop
 returns-2 c =
-    let good = c .before .before .before .before .before .before .before .pre .0 in
-    let below = rw (c .before .before .before .row-count .ensures .eq) at (c .before .before .if1 .taken) in
-    let cut = c .before .before .before .before .rows-before .ensures _ (c .before .before .before .before .before .pack .ensures) in
-    let here = sym (c .before .row-has .ensures _ (c .before .before .before .before .before .pack .ensures)) ∙ c .if2 .left in
-    record { eq = cut-other cut _ (before-other _ good _) here (past-other _ good _ _ (cut .above _ (omega arith) below)); below = tt }
+    let below = rw (c .before .before .before .before .before .before .before .row-count .ensures .eq) at (c .before .before .before .loop-test .taken) in
+    let stands = rw (c .before .before .before .before .loop .inv .1) at (sym (c .before .before .row-order .ensures) ∙ c .enum-told3 .given .1) in
+    record { eq = ended _ (c .before .before .before .before .before .before .before .before .before .pre) _ _ below (c .before .before .before .before .loop .inv .0 .none) stands; below = tt }
 
-returns-3 : tie.Need-returns-3
+returns-3 : tie.Need-returns-3 Inv-loop μ-loop
 returns-3 c =
-    let past = rw (c .before .row-count .ensures .eq) at (c .if1 .left) in
-    let cut = c .before .before .rows-before .ensures _ (c .before .before .before .pack .ensures) in
-    record { eq = cut-none cut _ (before-other _ (c .before .before .before .before .before .pre .0) _) past; below = tt }
+    let past = rw (c .before .before .before .before .row-count .ensures .eq) at (c .loop-test .left) in
+    record { eq = first-done _ (c .before .loop .inv .0 .within, c .before .loop .inv .0 .none) past; below = tt }
 
 pub index-of-spec : {M : Type 1} → statement M
 index-of-spec =
     tie.close
-    (tie.spec pack-requires rows-before-requires (λ c κs. search needs) row-has-requires returns returns-2 returns-3)
+    (tie.spec Inv-loop μ-loop (λ c κs. search needs) (λ c κs. search needs) row-start-requires loop-holds row-order-requires
+    (λ c. search needs) add-at (λ c. search needs) (λ c. search needs) loop-again (λ c. search needs) returns (λ c. search needs)
+    returns-2 returns-3)

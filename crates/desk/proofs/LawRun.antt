@@ -1,20 +1,20 @@
--- A row's list is right exactly where it is no longer than the run from its first technique on.
-use Prim.Native.Nat.{ℕ, zero, suc, _+_, _-_, _≤_, _<_}
+-- A row's list is right exactly where it is no longer than the run from its first technique on, and how that is found by steps.
+use Prim.Native.Nat.{ℕ, zero, suc, _+_, _*_, _-_, _/_, _%_, _≤_, _<_}
 use mathlib.Core.Path.{_≡_, refl, sym, ap, _∙_}
-use mathlib.Core.Bool.{Bool, true, false, _&&_, _||_}
+use mathlib.Core.Bool.{true, false, _&&_, _||_}
 use mathlib.Core.List.{List}
 use mathlib.Core.Logic.{⊎-elim}
 use native.Mathlib.Numerals.{add-one}
 use native.Mathlib.Nat.{eq-or-lt-of-le}
 use native.Mathlib.Omega.{arith}
-use borrow.Author.Tests.{le-leb, leb-true, eq-eqb, ne-eqb}
+use borrow.Author.Tests.{le-leb, lt-leb, le-ltb, lt-ltb, leb-true, leb-false, ne-eqb}
 use lib.Dec.{leb, ltb, eqb}
 use lib.ListN.{getD, length, set}
 use lib.Seq.{getD-set-same, getD-set-other}
 use Rattle.search.specs.Test.{all, every}
 use Rattle.search.proofs.LawTest.{either-way, and-left, and-right, all-at, all-of}
 use Rattle.desk.specs.Book.{techniqueCode, techniqueEfficiency, techniqueOk, techniquesOk}
-use Rattle.desk.specs.InnerRun.{lawful, runBefore, runFrom, runOf, Runs, listOk}
+use Rattle.desk.specs.InnerRun.{lawfulBy, lawful, runBefore, runFrom, runOf, runsApart, Runs, runReaches}
 
 -- the c techniques from f on are lawful, and their codes rise
 record Good (t : List ℕ) (f c : ℕ) : Type 0 where
@@ -155,19 +155,67 @@ module _ (t : List ℕ) where
       (λ a. let z : true ≡ false = sym (le-leb c (runOf t n f) (good-run n f c l (ok-good t f c a))) ∙ h in cc)
       (λ a. h ∙ sym a))
 
-  list-is : (size first count : ℕ) (runs : List ℕ) → Runs t size runs → listOk runs size first count ≡ techniquesOk t size first count
-  unfolding listOk techniquesOk
-  list-is size first zero runs R = rw (eq-eqb 0 0 refl, all-of (techniqueOk t first) 0 (λ i l. absurd (omega arith)))
-  list-is size first (suc c) runs R =
-      rw (ne-eqb (suc c) 0 (λ q. omega arith))
-      (either-way (leb (first + suc c) size)
-      (λ h.
-      let l : first + suc c ≤ size = leb-true (first + suc c) size h in
-      rw (h, R .at first (omega arith)) (within-run (size - first) first (suc c) (omega arith)))
-      (λ h. rw h))
+  pub list-none : (size first count : ℕ) → count ≡ 0 → true ≡ techniquesOk t size first count
+  unfolding techniquesOk
+  list-none size first count e = rw (e, all-of (techniqueOk t first) 0 (λ i l. absurd (omega arith)))
 
-  pub listed : (size n first count : ℕ) (runs : List ℕ) (r : Bool) → n ≡ size → Runs t size runs → r ≡ listOk runs n first count → r ≡ techniquesOk t size first count
-  listed size n first count runs r e R h = h ∙ ap (λ (m : ℕ). listOk runs m first count) e ∙ list-is size first count runs R
+  module _ (size first count : ℕ) (some : count ≡ 0 → ⊥) where
+    pub list-outside : size < first + count → false ≡ techniquesOk t size first count
+    unfolding techniquesOk
+    list-outside l = rw (ne-eqb count 0 some, lt-leb (first + count) size l)
+
+    pub list-inside : first + count ≤ size → runReaches t size first (first + count) ≡ techniquesOk t size first count
+    unfolding techniquesOk runReaches
+    list-inside l =
+        let e : first + count - first ≡ count = omega arith in
+        rw (ne-eqb count 0 some, le-leb (first + count) size l, e) (within-run (size - first) first count (omega arith))
+
+  -- ---- a list looked at technique by technique
+
+  pub lawful-is : (k : ℕ) {code efficiency : ℕ} → code ≡ techniqueCode t k → efficiency ≡ techniqueEfficiency t k → lawful t k ≡ lawfulBy code efficiency
+  unfolding lawful
+  lawful-is k p q = rw (p, q)
+
+  module _ (size k end : ℕ) (below : k < end) (inside : end ≤ size) where
+    step : runOf t (size - k) k ≡ runBefore t k (runOf t (size - (k + 1)) (k + 1))
+    unfolding runOf
+    step = let n : size - k ≡ suc (size - (k + 1)) = omega arith in rw n
+
+    pub reaches-not : lawful t k ≡ false → false ≡ runReaches t size k end
+    unfolding runReaches
+    reaches-not h = rw (step, unlawful k (runOf t (size - (k + 1)) (k + 1)) h, lt-leb (end - k) 0 (omega arith))
+
+    pub reaches-last : lawful t k ≡ true → k + 1 ≡ end → true ≡ runReaches t size k end
+    unfolding runReaches
+    reaches-last h e =
+        let next = runOf t (size - (k + 1)) (k + 1) in
+        let one : end - k ≤ 1 = omega arith in
+        rw step
+        (either-way (ltb (techniqueCode t k) (techniqueCode t (k + 1)))
+        (λ r. rw (goes-on k next h r, le-leb (end - k) (next + 1) (omega arith)))
+        (λ r. rw (ends k next h r, le-leb (end - k) 1 one)))
+
+    pub reaches-no-further : lawful t k ≡ true → k + 1 < end → techniqueCode t (k + 1) ≤ techniqueCode t k → false ≡ runReaches t size k end
+    unfolding runReaches
+    reaches-no-further h m c =
+        rw (step, ends k (runOf t (size - (k + 1)) (k + 1)) h (le-ltb _ _ c), lt-leb (end - k) 1 (omega arith))
+
+    pub reaches-on : lawful t k ≡ true → techniqueCode t k < techniqueCode t (k + 1) → runReaches t size (k + 1) end ≡ runReaches t size k end
+    unfolding runReaches
+    reaches-on h c =
+        let next = runOf t (size - (k + 1)) (k + 1) in
+        rw (step, goes-on k next h (lt-ltb _ _ c))
+        (either-way (leb (end - (k + 1)) next)
+        (λ r. rw (r, le-leb (end - k) (next + 1) (omega (arith, leb-true (end - (k + 1)) next r))))
+        (λ r. rw (r, lt-leb (end - k) (next + 1) (omega (arith, leb-false (end - (k + 1)) next r)))))
+
+  pub reaches-by-kept : (size k end : ℕ) (runs : List ℕ) → Runs t size runs → k % runsApart ≡ 0 → k < size
+      → leb (end - k) (getD runs (k / runsApart) 0) ≡ runReaches t size k end
+  unfolding runReaches
+  reaches-by-kept size k end runs R whole l =
+      let back : runsApart * (k / runsApart) ≡ k = omega arith in
+      let kept = rw back at (R .at (k / runsApart) (omega arith)) in
+      rw kept
 
   -- ---- filling from the end
 
@@ -188,13 +236,19 @@ module _ (t : List ℕ) where
       let n : size - k ≡ suc (size - suc k) = omega arith in
       rw (m, n, add-one k, e)
 
-  -- the runs from k on are filled in
+  -- the runs that are kept from k on are filled in
   abbrev pub Filled : (size k : ℕ) → List ℕ → Type 0
-  Filled size k runs = (j : ℕ) → k ≤ j → j < size → getD runs j 0 ≡ runOf t (size - j) j
+  Filled size k runs = (m : ℕ) → k ≤ runsApart * m → runsApart * m < size → getD runs m 0 ≡ runOf t (size - runsApart * m) (runsApart * m)
 
-  pub filled-next : (size k v : ℕ) (runs : List ℕ) → 0 < k → k - 1 < length runs → v ≡ runOf t (size - (k - 1)) (k - 1) → Filled size k runs → Filled size (k - 1) (set runs (k - 1) v)
-  filled-next size k v runs p h e F j l m =
-      ⊎-elim
-      (λ (q : k - 1 ≡ j). rw (← q) (getD-set-same runs (k - 1) v 0 h ∙ e))
-      (λ (lt : k - 1 < j). getD-set-other runs (k - 1) j v 0 (λ q. omega arith) ∙ F j (omega arith) m)
-      (eq-or-lt-of-le l)
+  module _ (size k : ℕ) (runs : List ℕ) (F : Filled size (k + 1) runs) where
+    pub filled-kept : (v : ℕ) → k % runsApart ≡ 0 → k / runsApart < length runs → v ≡ runOf t (size - k) k
+        → Filled size k (set runs (k / runsApart) v)
+    filled-kept v whole h e m l below =
+        let back : runsApart * (k / runsApart) ≡ k = omega arith in
+        ⊎-elim
+        (λ (q : k / runsApart ≡ m). rw (← q, back) (getD-set-same runs (k / runsApart) v 0 h ∙ e))
+        (λ (lt : k / runsApart < m). getD-set-other runs (k / runsApart) m v 0 (λ q. omega arith) ∙ F m (omega arith) below)
+        (eq-or-lt-of-le (omega arith))
+
+    pub filled-between : (k % runsApart ≡ 0 → ⊥) → Filled size k runs
+    filled-between part m l below = F m (omega arith) below

@@ -1,16 +1,20 @@
 -- How far a lawful list of techniques goes from each place of the block: what lets all rows be checked in one pass over it.
-use Prim.Native.Nat.{ℕ, zero, suc, _+_, _-_, _≤_, _<_}
+use Prim.Native.Nat.{ℕ, zero, suc, _+_, _*_, _-_, _≤_, _<_}
 use mathlib.Core.Path.{_≡_}
-use mathlib.Core.Bool.{Bool, _&&_, _||_, not, cond}
+use mathlib.Core.Bool.{Bool, _&&_, not, cond}
 use mathlib.Core.List.{List}
 use lib.Dec.{leb, ltb, eqb}
 use lib.ListN.{getD, length}
 use Rattle.amounts.specs.Line.{wholeShare}
 use Rattle.desk.specs.Book.{techniqueCode, techniqueEfficiency}
 
--- technique k by itself: its code is not 0, and its efficiency is at most the whole
+-- a technique by itself: its code is not 0, and its efficiency is at most the whole
+abbrev pub lawfulBy : (code efficiency : ℕ) → Bool
+lawfulBy code efficiency = not (eqb code 0) && leb efficiency wholeShare
+
+-- technique k
 unfoldable pub lawful : (t : List ℕ) (k : ℕ) → Bool
-lawful t k = not (eqb (techniqueCode t k) 0) && leb (techniqueEfficiency t k) wholeShare
+lawful t k = lawfulBy (techniqueCode t k) (techniqueEfficiency t k)
 
 -- the run from k on, where the one from k + 1 on has `next` techniques
 unfoldable pub runBefore : (t : List ℕ) (k next : ℕ) → ℕ
@@ -18,18 +22,22 @@ runBefore t k next = cond (lawful t k) (cond (ltb (techniqueCode t k) (technique
 
 -- the same by the numbers that it looks at: a technique's code and efficiency, and the code of the next
 abbrev pub runFrom : (code efficiency nextCode next : ℕ) → ℕ
-runFrom code efficiency nextCode next = cond (not (eqb code 0) && leb efficiency wholeShare) (cond (ltb code nextCode) (next + 1) 1) 0
+runFrom code efficiency nextCode next = cond (lawfulBy code efficiency) (cond (ltb code nextCode) (next + 1) 1) 0
 
 -- how many of the n techniques from k on are lawful, with codes that strictly rise
 unfoldable pub runOf : (t : List ℕ) (n k : ℕ) → ℕ
 runOf t zero k = 0
 runOf t (suc n) k = runBefore t k (runOf t n (k + 1))
 
--- `runs` holds, for each of the block's `size` techniques, the run from it on
-pub record Runs (t : List ℕ) (size : ℕ) (runs : List ℕ) : Type 0 where
-  pub long : size ≤ length runs
-  pub at : (k : ℕ) → k < size → getD runs k 0 ≡ runOf t (size - k) k
+-- runs are kept for one of so many techniques
+abbrev pub runsApart : ℕ
+runsApart = 4
 
--- a row's list by the run from its first technique on; of an empty list the first index is not looked at
-unfoldable pub listOk : (runs : List ℕ) (size first count : ℕ) → Bool
-listOk runs size first count = eqb count 0 || (leb (first + count) size && leb count (getD runs first 0))
+-- `runs` holds, for each such one of the block's `size` techniques, the run from it on
+pub record Runs (t : List ℕ) (size : ℕ) (runs : List ℕ) : Type 0 where
+  pub long : size ≤ runsApart * length runs
+  pub at : (m : ℕ) → runsApart * m < size → getD runs m 0 ≡ runOf t (size - runsApart * m) (runsApart * m)
+
+-- whether the list from k up to `end` is right, by the run from k on
+unfoldable pub runReaches : (t : List ℕ) (size k end : ℕ) → Bool
+runReaches t size k end = leb (end - k) (runOf t (size - k) k)

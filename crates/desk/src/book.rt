@@ -1,19 +1,20 @@
 // The coefficient book: its rows and their techniques.
 ghost use mathlib.Core.Path.{_≡_};
 ghost use mathlib.Core.Bool.{true};
-ghost use Prim.Native.Nat.{_<_, _≤_, _^_};
+ghost use Prim.Native.Nat.{_<_, _≤_, _*_, _^_};
 ghost use lib.ListN.{length};
 ghost use Rattle.little.specs.Read.{Reads};
-ghost use Rattle.headers.specs.Book.{techniqueCount, bookHeaderOk, techniqueBlock};
+ghost use Rattle.headers.specs.Book.{techniqueCount, techniqueSize, bookHeaderOk, techniqueBlock};
 ghost use Rattle.desk.specs.Book.{rowStart, keyAt, fieldsOk, coefficientAt, rises, rowsOk, bookOk};
 ghost use Rattle.search.specs.Order.{listOrder};
 ghost use Rattle.desk.specs.Inner.{counted, farthest, RowIn, ReadsKey, atScale, restFields, keyOrder, rowFits};
-ghost use Rattle.desk.specs.InnerRun.{Runs};
+ghost use Rattle.desk.specs.InnerRun.{runsApart, Runs};
 use super::inside::byte_in;
 use super::inside::u16_in;
 use super::inside::u32_in;
 use super::key::Key;
 use super::key::key_from;
+use super::run::RUNS_APART;
 use super::run::fill_runs;
 use super::run::list_ok;
 use headers::book::MOST_TECHNIQUES;
@@ -137,14 +138,14 @@ pub(crate) fn coefficient_at(b: &[u8], at: usize) -> usize
 }
 
 // A row by itself, with the table of runs.
-fn row_fits(b: &[u8], runs: &[u16], size: usize, at: usize) -> bool
-    requires { ⌜ RowIn (now b) at × (size ≡ techniqueCount (now b)) × Runs (techniqueBlock (now b)) size (now runs) ⌝ }
-    ensures { λ r. ⌜ r ≡ rowFits (now (b .entry)) (techniqueBlock (now (b .entry))) at ⌝ }
+fn row_fits(b: &[u8], t: &[u8], runs: &[u16], size: usize, at: usize) -> bool
+    requires { ⌜ RowIn (now b) at × (size ≡ techniqueCount (now b)) × (length (now t) ≡ techniqueSize * size) × Runs (now t) size (now runs) ⌝ }
+    ensures { λ r. ⌜ r ≡ rowFits (now (b .entry)) (now (t .entry)) at ⌝ }
 {
     if fields_ok(b, at) {
         let first = u16_in(b, at, 20);
         let techniques = u16_in(b, at, 22);
-        (coefficient_at(b, at) <= MOST_COEFFICIENT) & list_ok(runs, size, first, techniques)
+        (coefficient_at(b, at) <= MOST_COEFFICIENT) & list_ok(t, runs, size, first, techniques)
     } else {
         false
     }
@@ -170,12 +171,13 @@ fn rows_ok(b: &[u8], runs: &[u16]) -> bool
     requires { ⌜ (bookHeaderOk (now b) ≡ true) × Runs (techniqueBlock (now b)) (techniqueCount (now b)) (now runs) ⌝ }
     ensures { λ r. ⌜ r ≡ rowsOk (now (b .entry)) ⌝ }
 {
+    let t = technique_block(b);
     let rows = row_count(b);
     let size = technique_count(b);
     let mut at = row_offset(b);
     let mut i = 0;
     while i < rows {
-        let fits = row_fits(b, runs, size, at);
+        let fits = row_fits(b, t, runs, size, at);
         if fits & row_rises(b, i, at) {
             at += ROW_SIZE;
             i += 1;
@@ -187,28 +189,23 @@ fn rows_ok(b: &[u8], runs: &[u16]) -> bool
 }
 
 fn checked(b: &[u8], runs: &mut [u16]) -> bool
-    requires { ⌜ (bookHeaderOk (now b) ≡ true) × (techniqueCount (now b) ≤ length (now runs)) ⌝ }
+    requires { ⌜ (bookHeaderOk (now b) ≡ true) × (techniqueCount (now b) ≤ runsApart * length (now runs)) ⌝ }
     ensures { λ r. ⌜ r ≡ rowsOk (now (b .entry)) ⌝ }
 {
     fill_runs(technique_block(b), technique_count(b), runs);
     rows_ok(b, runs)
 }
 
-// A table is cleared before it is filled, so that a book of few techniques has a small one.
-const FEW_TECHNIQUES: usize = 256;
+// As many runs as the longest technique block has.
+const KEPT_RUNS: usize = MOST_TECHNIQUES / RUNS_APART;
 
 // Whether a book of any content and size is right. Rows are looked at only where the header is, so that no wrong count is walked.
 pub fn book_ok(b: &[u8]) -> bool
     ensures { λ r. ⌜ r ≡ bookOk (now (b .entry)) ⌝ }
 {
     if book_header_ok(b) {
-        if technique_count(b) <= FEW_TECHNIQUES {
-            let mut runs = [0u16; FEW_TECHNIQUES];
-            checked(b, &mut runs)
-        } else {
-            let mut runs = [0u16; MOST_TECHNIQUES];
-            checked(b, &mut runs)
-        }
+        let mut runs = [0u16; KEPT_RUNS];
+        checked(b, &mut runs)
     } else {
         false
     }

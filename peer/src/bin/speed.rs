@@ -72,7 +72,9 @@ fn cases() -> Vec<(String, Case)> {
         cases.push((format!("full: 128 lines by energy, 1,024 rows, in {name}"), case));
     }
     cases.push(("full: 128 lines by energy of 250 kW, in tonnes".to_string(), full_case(3, 250.0)));
-    cases.push(("hostile book: 1,024 rows of 4,096 techniques".to_string(), hostile_case()));
+    cases.push(("hostile book: 1,024 rows of 4,096 techniques".to_string(), hostile_case(0)));
+    let name = "hostile book: the same lists from the second technique on";
+    cases.push((name.to_string(), hostile_case(1)));
     let loose = loose_case();
     assert!(every_cell_is_loose(&loose), "no cell is whole in tonnes");
     cases.push(("shown table of 128 loose lines, 1 row".to_string(), loose));
@@ -159,9 +161,10 @@ fn works() -> Works {
     Works { case: BundleCase::of(&full_book().bytes(), &bundle), sheets }
 }
 
-/// Every row names every technique, and all share them.
-fn hostile_case() -> Case {
-    let row = |scale| Row { scale, ..Row::plain(1, 1, 150) }.with_techniques(1, 0, 4096);
+/// Every row names every technique from this one on, and all share them.
+fn hostile_case(first: u16) -> Case {
+    let row =
+        |scale| Row { scale, ..Row::plain(1, 1, 150) }.with_techniques(1, first, 4096 - first);
     let book = Book {
         rows: (0..1024).map(row).collect(),
         techniques: (1..=4096).map(|code| technique(code, 700)).collect(),

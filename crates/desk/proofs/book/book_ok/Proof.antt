@@ -1,4 +1,4 @@
--- Where the header is right there are few enough techniques for one of the two tables of runs.
+-- Where the header is right there are few enough techniques for the table of runs.
 use mathlib.Core.Path.{sym, _∙_}
 use native.Mathlib.Omega.{arith}
 use Rattle.desk.specs.Book.{bookOk}
@@ -8,27 +8,17 @@ use Rattle.desk.proofs.book.book_ok.Statement.{statement}
 use Rattle.desk.proofs.book.book_ok.Tie as tie
 
 checked-requires : tie.Need-checked-requires
-checked-requires c κs = (sym (c .before .before .before .before .book-header-ok .ensures) ∙ c .before .before .before .if1 .taken, omega (arith, c .before .before .technique-count .ensures .eq))
-
-checked-requires-2 : tie.Need-checked-requires-2
-checked-requires-2 c κs =
-    let header = sym (c .before .before .before .before .book-header-ok .ensures) ∙ c .before .before .before .if1 .taken in
+checked-requires c κs =
+    let header = sym (c .before .before .book-header-ok .ensures) ∙ c .before .if1 .taken in
     (header, omega (arith, header-lies _ header))
 
 returns : tie.Need-returns
 unfolding bookOk
-returns c = rw (← c .before .before .before .before .before .before .book-header-ok .ensures, c .before .before .before .before .before .if1 .taken) (c .before .checked .ensures)
+returns c = rw (← c .before .before .before .before .book-header-ok .ensures, c .before .before .before .if1 .taken) (c .before .checked .ensures)
 
 returns-2 : tie.Need-returns-2
 unfolding bookOk
-returns-2 c = rw (← c .before .before .before .before .before .before .book-header-ok .ensures, c .before .before .before .before .before .if1 .taken) (c .before .checked2 .ensures)
-
-returns-3 : tie.Need-returns-3
-unfolding bookOk
-returns-3 c = rw (← c .before .book-header-ok .ensures, c .if1 .left)
+returns-2 c = rw (← c .before .book-header-ok .ensures, c .if1 .left)
 
 pub book-ok-spec : {M : Type 1} → statement M
-book-ok-spec =
-    tie.close
-    (tie.spec (λ c κs. search needs) (λ c κs. search needs) (λ c. search needs) checked-requires (λ c. search needs)
-    checked-requires-2 returns returns-2 returns-3)
+book-ok-spec = tie.close (tie.spec (λ c κs. search needs) (λ c. search needs) checked-requires returns returns-2)

@@ -1,11 +1,10 @@
--- A list of techniques is right exactly where it is no longer than the run from its first one on.
+-- The tests in the order of the definition; the list of techniques by its own.
 use mathlib.Core.Bool.{Bool, _&&_}
 use mathlib.Core.Path.{ap, sym, _∙_}
 use lib.Dec.{leb}
 use Rattle.search.specs.Test.{every}
 use Rattle.desk.specs.Book.{mostCoefficient}
 use Rattle.desk.specs.Inner.{rowFits}
-use Rattle.desk.proofs.LawRun.{listed}
 use borrow.Author.Needs.{needs}
 use Rattle.desk.proofs.book.row_fits.Statement.{statement}
 use Rattle.desk.proofs.book.row_fits.Tie as tie
@@ -14,14 +13,12 @@ coefficient-at-requires : tie.Need-coefficient-at-requires
 coefficient-at-requires c κs = (search needs, sym (c .before .before .before .fields-ok .ensures) ∙ c .before .before .if1 .taken)
 
 list-ok-requires : tie.Need-list-ok-requires
-list-ok-requires c κs = (c .before .before .before .before .before .before .before .pre .2 .long, search needs, search needs)
+list-ok-requires c κs = (c .before .before .before .before .before .before .before .before .pre .2, c .before .before .before .before .before .before .before .before .pre .3, search needs, search needs)
 
 returns : tie.Need-returns
 unfolding every rowFits
 returns c =
-    let pre = c .before .before .before .before .before .before .before .before .pre in
-    let runs = rw (pre .1) at (pre .2) in
-    let list = listed _ _ _ _ _ _ _ (pre .1) runs (c .list-ok .ensures) in
+    let list = rw (c .before .before .before .before .before .before .before .before .before .pre .1) at (c .list-ok .ensures) in
     let fields = c .before .before .before .before .before .fields-ok .ensures in
     let fit = c .before .before .before .before .if1 .taken in
     let first = c .before .before .before .u16-in .ensures .eq in

@@ -8,8 +8,9 @@ use native.Mathlib.Nat.{eq-or-lt-of-le}
 use native.Mathlib.Omega.{arith}
 use borrow.Author.Tests.{ltb-true, eqb-true, lt-ltb, le-ltb, eq-eqb, ne-eqb}
 use lib.Dec.{ltb, eqb}
+use Rattle.little.specs.Read.{u16At}
 use Rattle.search.specs.First.{first}
-use Rattle.search.specs.Order.{listOrder, isBefore, isSame}
+use Rattle.search.specs.InnerOrder.{listOrder, isBefore, isSame}
 use Rattle.search.specs.Test.{every}
 use Rattle.search.specs.declared.found.Found.the-variants.{At, Nothing}
 use Rattle.search.specs.declared.order.Order.{Order}
@@ -83,6 +84,10 @@ apart c a k p q =
     (λ s. s)
 
 -- ---- an order that is found field by field
+
+-- a row's first field stands where the row starts
+pub from-start : (b : List ℕ) (at x : ℕ) → x ≡ u16At b (at + 0) → x ≡ u16At b at
+from-start b at x h = let e : at + 0 ≡ at = omega arith in rw e at h
 
 before-is : (x y : List ℕ) → isBefore (listOrder x y) ≡ before x y
 unfolding listOrder

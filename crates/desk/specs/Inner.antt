@@ -8,7 +8,7 @@ use lib.ListN.{length, take, drop}
 use Rattle.amounts.specs.Line.{wholeShare}
 use Rattle.little.specs.Read.{u16Range}
 use Rattle.search.specs.First.{first}
-use Rattle.search.specs.Order.{listOrder}
+use Rattle.search.specs.InnerOrder.{listOrder}
 use Rattle.search.specs.Test.{every}
 use Rattle.search.specs.declared.found.Found.the-variants.{Nothing}
 use Rattle.search.specs.declared.order.Order.{Order}

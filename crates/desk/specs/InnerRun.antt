@@ -6,6 +6,7 @@ use mathlib.Core.List.{List}
 use lib.Dec.{leb, ltb, eqb}
 use lib.ListN.{getD, length}
 use Rattle.amounts.specs.Line.{wholeShare}
+use Rattle.headers.specs.Book.{techniqueSize}
 use Rattle.desk.specs.Book.{techniqueCode, techniqueEfficiency}
 
 -- a technique by itself: its code is not 0, and its efficiency is at most the whole
@@ -37,6 +38,11 @@ runsApart = 4
 pub record Runs (t : List ℕ) (size : ℕ) (runs : List ℕ) : Type 0 where
   pub long : size ≤ runsApart * length runs
   pub at : (m : ℕ) → runsApart * m < size → getD runs m 0 ≡ runOf t (size - runsApart * m) (runsApart * m)
+
+-- a block of `size` techniques, with its runs
+pub record Block (t : List ℕ) (size : ℕ) (runs : List ℕ) : Type 0 where
+  pub whole : length t ≡ techniqueSize * size
+  pub kept : Runs t size runs
 
 -- whether the list from k up to `end` is right, by the run from k on
 unfoldable pub runReaches : (t : List ℕ) (size k end : ℕ) → Bool

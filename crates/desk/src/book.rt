@@ -4,11 +4,11 @@ ghost use mathlib.Core.Bool.{true};
 ghost use Prim.Native.Nat.{_<_, _≤_, _*_, _^_};
 ghost use lib.ListN.{length};
 ghost use Rattle.little.specs.Read.{Reads};
-ghost use Rattle.headers.specs.Book.{techniqueCount, techniqueSize, bookHeaderOk, techniqueBlock};
+ghost use Rattle.headers.specs.Book.{techniqueCount, bookHeaderOk, techniqueBlock};
 ghost use Rattle.desk.specs.Book.{rowStart, keyAt, fieldsOk, coefficientAt, rises, rowsOk, bookOk};
-ghost use Rattle.search.specs.Order.{listOrder};
+ghost use Rattle.search.specs.InnerOrder.{listOrder};
 ghost use Rattle.desk.specs.Inner.{counted, farthest, RowIn, ReadsKey, atScale, restFields, keyOrder, rowFits};
-ghost use Rattle.desk.specs.InnerRun.{runsApart, Runs};
+ghost use Rattle.desk.specs.InnerRun.{runsApart, Runs, Block};
 use super::inside::byte_in;
 use super::inside::u16_in;
 use super::inside::u32_in;
@@ -60,8 +60,8 @@ fn rest_order(b: &[u8], at: usize, k: Key, scale: usize) -> Order
     order_of(byte_in(b, at, 11), k.pollutant)
 }
 
-// How the key of the row that starts at `at` stands to this key with this scale. It is compared where it stands, field by field, and nothing
-// is read past the first field that differs.
+// How the key of the row that starts at `at` stands to this key with this scale. It is compared where it stands, field by field, and
+// nothing is read past the first field that differs.
 pub(crate) fn row_order(b: &[u8], at: usize, k: Key, scale: usize) -> Order
     requires { ⌜ RowIn (now b) at ⌝ }
     ensures { λ r. ⌜ r ≡ keyOrder (keyAt (now (b .entry)) at) (atScale k scale) ⌝ }
@@ -139,7 +139,7 @@ pub(crate) fn coefficient_at(b: &[u8], at: usize) -> usize
 
 // A row by itself, with the table of runs.
 fn row_fits(b: &[u8], t: &[u8], runs: &[u16], size: usize, at: usize) -> bool
-    requires { ⌜ RowIn (now b) at × (size ≡ techniqueCount (now b)) × (length (now t) ≡ techniqueSize * size) × Runs (now t) size (now runs) ⌝ }
+    requires { ⌜ RowIn (now b) at × (size ≡ techniqueCount (now b)) × Block (now t) size (now runs) ⌝ }
     ensures { λ r. ⌜ r ≡ rowFits (now (b .entry)) (now (t .entry)) at ⌝ }
 {
     if fields_ok(b, at) {

@@ -3,7 +3,8 @@ ghost use mathlib.Core.Path.{_≡_};
 ghost use mathlib.Core.Bool.{true};
 ghost use Prim.Native.Nat.{_<_};
 ghost use Rattle.search.specs.First.{Finds, first};
-ghost use Rattle.headers.specs.Book.{rowCount};
+ghost use Rattle.little.specs.Read.{Reads, u32Range};
+ghost use Rattle.headers.specs.Book.{bookHeader, rowCount};
 ghost use Rattle.desk.specs.Book.{rowStart, fieldsOk, bookOk};
 ghost use Rattle.desk.specs.Inner.{counted, RowIn, SmallKey, atScale, Passed, ReadsRow, FindsRow};
 ghost use Rattle.desk.specs.Row.{rowHas, rowIndex, rowAt, rowOf};
@@ -39,13 +40,12 @@ const FEW_ROWS: usize = 8;
 
 // How many rows, from the first on, are known not to have the key: rows rise, so that half of those in question fall away at each turn,
 // until few are left.
-fn rows_passed(b: &[u8], k: Key, scale: usize) -> usize
-    requires { ⌜ bookOk (now b) ≡ true ⌝ }
+fn rows_passed(b: &[u8], from: usize, rows: usize, k: Key, scale: usize) -> usize
+    requires { ⌜ (bookOk (now b) ≡ true) × Reads from (bookHeader (now b) .rowOffset) u32Range × Reads rows (rowCount (now b)) counted ⌝ }
     ensures { λ r. ⌜ Passed (now (b .entry)) (atScale k scale) r ⌝ }
 {
-    let from = row_offset(b);
     let mut low = 0;
-    let mut high = row_count(b);
+    let mut high = rows;
     while FEW_ROWS < high - low {
         let middle = low + (high - low) / 2;
         match row_order(b, from + ROW_SIZE * middle, k, scale) {
@@ -62,9 +62,10 @@ fn index_of(b: &[u8], k: Key, scale: usize) -> Found
     requires { ⌜ bookOk (now b) ≡ true ⌝ }
     ensures { λ r. ⌜ Finds r (first (rowCount (now (b .entry))) (rowHas (now (b .entry)) (atScale k scale))) counted ⌝ }
 {
+    let from = row_offset(b);
     let rows = row_count(b);
-    let mut i = rows_passed(b, k, scale);
-    let mut at = row_start(b, i);
+    let mut i = rows_passed(b, from, rows, k, scale);
+    let mut at = from + ROW_SIZE * i;
     while i < rows {
         match row_order(b, at, k, scale) {
             Order::Before => {

@@ -6,7 +6,7 @@ ghost use lib.ListN.{length};
 ghost use Rattle.headers.specs.Book.{mostTechniques, techniqueSize};
 ghost use Rattle.desk.specs.Inner.{counted};
 ghost use Rattle.desk.specs.Book.{techniquesOk};
-ghost use Rattle.desk.specs.InnerRun.{lawfulBy, runsApart, runFrom, Runs};
+ghost use Rattle.desk.specs.InnerRun.{lawfulBy, runsApart, runFrom, Runs, Block};
 use super::line::WHOLE_SHARE;
 use super::technique::code_in;
 use super::technique::efficiency_in;
@@ -55,7 +55,7 @@ pub(crate) fn fill_runs(t: &[u8], size: usize, runs: &mut [u16])
 // A list that is empty is right wherever it begins. Any other is looked at technique by technique, up to its end or to the first one whose
 // run is kept.
 pub(crate) fn list_ok(t: &[u8], runs: &[u16], size: usize, first: usize, count: usize) -> bool
-    requires { ⌜ (length (now t) ≡ techniqueSize * size) × Runs (now t) size (now runs) × (first < counted) × (count < counted) ⌝ }
+    requires { ⌜ Block (now t) size (now runs) × (first < counted) × (count < counted) ⌝ }
     ensures { λ r. ⌜ r ≡ techniquesOk (now (t .entry)) size first count ⌝ }
 {
     if count == 0 {

@@ -4,9 +4,10 @@ use mathlib.Core.Path.{_≡_, refl}
 use mathlib.Core.Bool.{_&&_, _||_}
 use mathlib.Core.List.{List, [], _∷_}
 use native.Mathlib.Omega.{arith}
-use borrow.Author.Tests.{ltb-true, ltb-false, eqb-true, eqb-false, lt-ltb, le-ltb, eq-eqb, ne-eqb}
+use borrow.Author.Tests.{ltb-true, ltb-false, lt-ltb, le-ltb, eq-eqb, ne-eqb}
 use lib.Dec.{ltb, eqb}
-use Rattle.search.specs.Order.{orderOf, andThen, listOrder, isBefore, isSame}
+use Rattle.search.specs.Order.{orderOf}
+use Rattle.search.specs.InnerOrder.{andThen, listOrder, isBefore, isSame}
 use Rattle.search.specs.declared.order.Order.{Order}
 use Rattle.search.specs.declared.order.Order.the-variants.{Before, Same, After}
 use Rattle.search.proofs.LawTest.{either-way}

@@ -2,3 +2,4 @@ pub mod Test
 pub mod First
 pub mod InnerCut
 pub mod Order
+pub mod InnerOrder

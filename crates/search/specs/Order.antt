@@ -1,32 +1,9 @@
--- How one number stands to another, and one list of numbers to another.
+-- How one number stands to another.
 use Prim.Native.Nat.{ℕ}
-use mathlib.Core.Bool.{Bool, true, false, cond}
-use mathlib.Core.List.{List, [], _∷_}
+use mathlib.Core.Bool.{cond}
 use lib.Dec.{ltb, eqb}
 use Rattle.search.specs.declared.order.Order.{Order}
 use Rattle.search.specs.declared.order.Order.the-variants.{Before, Same, After}
 
 unfoldable pub orderOf : ℕ → ℕ → Order
 orderOf x y = cond (ltb x y) Before (cond (eqb x y) Same After)
-
--- the one, or where that is the same the other
-abbrev pub andThen : Order → Order → Order
-andThen Before o = Before
-andThen Same o = o
-andThen After o = After
-
--- dictionary order: the first that differ decide
-unfoldable pub listOrder : List ℕ → List ℕ → Order
-listOrder [] ys = Same
-listOrder (x ∷ xs) [] = Same
-listOrder (x ∷ xs) (y ∷ ys) = andThen (orderOf x y) (listOrder xs ys)
-
-abbrev pub isBefore : Order → Bool
-isBefore Before = true
-isBefore Same = false
-isBefore After = false
-
-abbrev pub isSame : Order → Bool
-isSame Before = false
-isSame Same = true
-isSame After = false

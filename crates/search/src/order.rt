@@ -1,4 +1,4 @@
-// How one number stands to another.
+// How numbers stand to one another.
 ghost use mathlib.Core.Path.{_≡_};
 ghost use Rattle.search.specs.Order.{orderOf};
 
@@ -8,6 +8,7 @@ pub enum Order {
     After,
 }
 
+// How one number stands to another.
 pub fn order_of(x: usize, y: usize) -> Order
     ensures { λ r. ⌜ r ≡ orderOf x y ⌝ }
 {

@@ -13,7 +13,7 @@ coefficient-at-requires : tie.Need-coefficient-at-requires
 coefficient-at-requires c κs = (search needs, sym (c .before .before .before .fields-ok .ensures) ∙ c .before .before .if1 .taken)
 
 list-ok-requires : tie.Need-list-ok-requires
-list-ok-requires c κs = (c .before .before .before .before .before .before .before .before .pre .2, c .before .before .before .before .before .before .before .before .pre .3, search needs, search needs)
+list-ok-requires c κs = (c .before .before .before .before .before .before .before .before .pre .2, search needs, search needs)
 
 returns : tie.Need-returns
 unfolding every rowFits

@@ -1,13 +1,9 @@
 -- The row before stands one row's size before this one.
-use Prim.Native.Nat.{_-_}
-use mathlib.Core.Path.{_≡_, sym, ap, _∙_}
+use mathlib.Core.Path.{sym, _∙_}
 use native.Mathlib.Omega.{arith}
-use borrow.Author.Tests.{eq-eqb, ne-eqb}
+use borrow.Author.Tests.{eq-eqb}
 use borrow.Author.Needs.{needs}
-use Rattle.search.specs.Order.{isBefore}
-use Rattle.headers.specs.Book.{bookHeader}
-use Rattle.desk.specs.Book.{rowStart, rises}
-use Rattle.desk.specs.Inner.{atScale}
+use Rattle.desk.specs.Book.{rises}
 use Rattle.desk.proofs.LawOrder.{rises-by}
 use Rattle.desk.proofs.book.row_rises.Statement.{statement}
 use Rattle.desk.proofs.book.row_rises.Tie as tie
@@ -23,13 +19,22 @@ unfolding rises
 returns c = rw (eq-eqb _ _ (c .if1 .taken))
 
 returns-2 : tie.Need-returns-2
-returns-2 c = rises-by _ _ _ _ (c .before .before .before .before .if1 .left) (c .before .before .before .before .before .before .pre .1) (c .before .before .before .key-at .ensures .eq) (sym (c .before .before .row-order .ensures) ∙ c .enum-told .given .1)
+returns-2 c =
+    let key = c .before .before .before in
+    let stands = sym (c .before .before .row-order .ensures) ∙ c .enum-told .given .1 in
+    rises-by _ _ _ _ (key .before .if1 .left) (key .before .before .before .pre .1) (key .key-at .ensures .eq) stands
 
 returns-3 : tie.Need-returns-3
-returns-3 c = rises-by _ _ _ _ (c .before .before .before .before .if1 .left) (c .before .before .before .before .before .before .pre .1) (c .before .before .before .key-at .ensures .eq) (sym (c .before .before .row-order .ensures) ∙ c .enum-told2 .given .1)
+returns-3 c =
+    let key = c .before .before .before in
+    let stands = sym (c .before .before .row-order .ensures) ∙ c .enum-told2 .given .1 in
+    rises-by _ _ _ _ (key .before .if1 .left) (key .before .before .before .pre .1) (key .key-at .ensures .eq) stands
 
 returns-4 : tie.Need-returns-4
-returns-4 c = rises-by _ _ _ _ (c .before .before .before .before .if1 .left) (c .before .before .before .before .before .before .pre .1) (c .before .before .before .key-at .ensures .eq) (sym (c .before .before .row-order .ensures) ∙ c .enum-told3 .given .1)
+returns-4 c =
+    let key = c .before .before .before in
+    let stands = sym (c .before .before .row-order .ensures) ∙ c .enum-told3 .given .1 in
+    rises-by _ _ _ _ (key .before .if1 .left) (key .before .before .before .pre .1) (key .key-at .ensures .eq) stands
 
 pub row-rises-spec : {M : Type 1} → statement M
 row-rises-spec =

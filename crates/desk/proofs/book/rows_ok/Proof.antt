@@ -25,10 +25,14 @@ loop-holds c = (search needs, all-start _, omega (arith, c .row-offset .ensures 
 row-fits-requires : tie.Need-row-fits-requires Inv-loop μ-loop
 row-fits-requires c κs =
     let l = c .before .loop in
+    let pre = c .before .before .before .before .before .before .before .before .pre in
     let size = c .before .before .before .technique-count .ensures .eq in
-    let inside = row-in _ (c .before .before .before .before .before .before .before .before .pre .0) (l .i) (omega (arith, c .before .before .before .before .row-count .ensures .eq)) in
-    let block = c .before .before .before .before .before .technique-block .ensures in
-    (omega (arith, l .inv .2, inside), size, rw (block, size) (block-size _ (c .before .before .before .before .before .before .before .before .pre .0)), rw (block, size) (c .before .before .before .before .before .before .before .before .pre .1))
+    let inside = row-in _ (pre .0) (l .i) (omega (arith, c .before .before .before .before .row-count .ensures .eq)) in
+    let block = c .before .before .before .before .before .technique-block .ensures in (
+      omega (arith, l .inv .2, inside),
+      size,
+      record { whole = rw (block, size) (block-size _ (pre .0)); kept = rw (block, size) (pre .1) },
+    )
 
 row-rises-requires : tie.Need-row-rises-requires Inv-loop μ-loop
 row-rises-requires c κs =

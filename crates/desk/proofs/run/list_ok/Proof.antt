@@ -24,13 +24,13 @@ returns-2 : tie.Need-returns-2 Inv-loop μ-loop
 returns-2 c = list-outside _ _ _ _ (c .before .if1 .left) (c .if2 .taken)
 
 code-in-requires : tie.Need-code-in-requires Inv-loop μ-loop
-code-in-requires c κs = omega (arith, c .before .before .before .before .pre .0)
+code-in-requires c κs = omega (arith, c .before .before .before .before .pre .0 .whole)
 
 loop-holds : tie.Need-loop-holds Inv-loop μ-loop
 loop-holds c = (omega arith, c .code-in .ensures .eq, list-inside _ _ _ _ (c .before .before .if1 .left) (c .before .if2 .left))
 
 efficiency-in-requires : tie.Need-efficiency-in-requires Inv-loop μ-loop
-efficiency-in-requires c κs = omega (arith, c .before .before .before .before .before .before .before .pre .0)
+efficiency-in-requires c κs = omega (arith, c .before .before .before .before .before .before .before .pre .0 .whole)
 
 returns-3 : tie.Need-returns-3 Inv-loop μ-loop
 returns-3 c =
@@ -45,7 +45,7 @@ returns-4 c =
     reaches-last _ _ _ _ (l .inv .0) (c .before .before .before .before .before .before .before .if2 .left) lawful (c .if4 .taken) ∙ l .inv .2
 
 code-in-requires-2 : tie.Need-code-in-requires-2 Inv-loop μ-loop
-code-in-requires-2 c κs = omega (arith, c .before .before .before .before .before .before .before .before .before .before .before .pre .0)
+code-in-requires-2 c κs = omega (arith, c .before .before .before .before .before .before .before .before .before .before .before .pre .0 .whole)
 
 returns-5 : tie.Need-returns-5 Inv-loop μ-loop
 returns-5 c =
@@ -62,7 +62,7 @@ loop-again c =
     (omega (arith, c .before .before .if4 .left), c .before .code-in2 .ensures .eq, reaches-on _ _ _ _ (l .inv .0) (c .before .before .before .before .before .before .before .before .before .if2 .left) lawful rises ∙ l .inv .2)
 
 shared-slice-read-result : tie.Need-shared-slice-read-result Inv-loop μ-loop
-shared-slice-read-result c = omega (arith, c .before .before .before .before .before .before .before .before .pre .1 .long)
+shared-slice-read-result c = omega (arith, c .before .before .before .before .before .before .before .before .pre .0 .kept .long)
 
 cast-result : tie.Need-cast-result Inv-loop μ-loop
 cast-result c = omega (arith, c .shared-slice-known3 .given (c .before .before .loop .k / runsApart))
@@ -70,7 +70,7 @@ cast-result c = omega (arith, c .shared-slice-known3 .given (c .before .before .
 returns-6 : tie.Need-returns-6 Inv-loop μ-loop
 returns-6 c =
     let l = c .before .before .loop in
-    reaches-by-kept _ _ (l .k) _ _ (c .before .before .before .before .before .before .before .before .pre .1) (c .before .loop-test .left) (omega arith) ∙ l .inv .2
+    reaches-by-kept _ _ (l .k) _ _ (c .before .before .before .before .before .before .before .before .pre .0 .kept) (c .before .loop-test .left) (omega arith) ∙ l .inv .2
 
 pub list-ok-spec : {M : Type 1} → statement M
 list-ok-spec =

@@ -1,5 +1,4 @@
 -- By the two tests: a technique that is not lawful has no run, one that does not rise ends it.
-use mathlib.Core.Path.{sym, _∙_}
 use borrow.Author.Tests.{lt-ltb, le-ltb}
 use borrow.Author.Needs.{needs}
 use Rattle.desk.proofs.run.run_before.Statement.{statement}

@@ -1,6 +1,8 @@
 -- The first field that differs decides; those before it are the same.
-use mathlib.Core.Path.{_∙_}
+use Prim.Native.Nat.{_+_}
+use mathlib.Core.Path.{_≡_, _∙_}
 use borrow.Author.Needs.{needs}
+use Rattle.little.specs.Read.{u16At}
 use Rattle.search.proofs.LawOrder.{first-differ, first-same, last-decides}
 use Rattle.desk.specs.Key.{keyFrom}
 use Rattle.desk.specs.Inner.{atScale}
@@ -9,7 +11,11 @@ use Rattle.desk.proofs.book.rest_order.Tie as tie
 
 returns : tie.Need-returns
 unfolding keyFrom atScale
-returns c = rw (← c .before .before .u16-in .ensures .eq) (c .order-of .ensures ∙ first-differ _ _ _ _ (c .before .if1 .taken))
+returns c =
+    let read = c .before .before .u16-in in
+    let entry = c .before .before .before .before .args in
+    let scale : read .result ≡ u16At (entry .b .now) (entry .at + 8) = read .ensures .eq in
+    rw (← scale) (c .order-of .ensures ∙ first-differ _ _ _ _ (c .before .if1 .taken))
 
 returns-2 : tie.Need-returns-2
 unfolding keyFrom atScale

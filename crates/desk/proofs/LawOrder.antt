@@ -20,7 +20,7 @@ use Rattle.search.proofs.LawFirst.{first-start, first-here, first-rest}
 use Rattle.search.proofs.LawCut.{rising}
 use Rattle.search.proofs.LawOrder.{before-first, same-first}
 use Rattle.desk.specs.Key.{keyFields, before, keyLess, keySame}
-use Rattle.headers.specs.Book.{rowCount}
+use Rattle.headers.specs.Book.{bookHeader, rowCount}
 use Rattle.desk.specs.Book.{rowStart, keyAt, rises, rowOk, bookOk}
 use Rattle.desk.specs.Row.{rowHas}
 use Rattle.desk.specs.Inner.{atScale, keyOrder, rowFits}
@@ -137,13 +137,13 @@ less-other a k h = sym (same-is a k) ∙ not-same (keyOrder a k) (less-is a k �
     not-same Same e = cc
     not-same After e = cc
 
--- a row's key held, and the row before it compared with it
+-- a row's key is held, and the row before it is compared with it
 pub rises-by : (b : List ℕ) (i at : ℕ) (key : Key) {o : Order} → (i ≡ 0 → ⊥) → at ≡ rowStart b i → key ≡ keyAt b at
-    → keyOrder (keyAt b (at - 24)) (atScale key (key .scale)) ≡ o → isBefore o ≡ rises b i
+    → keyOrder (keyAt b (at - bookHeader b .rowSize)) (atScale key (key .scale)) ≡ o → isBefore o ≡ rises b i
 unfolding rises atScale
 rises-by b i at key {o} some start held h =
-    let back : at - 24 ≡ rowStart b (i - 1) = omega (arith, start, some) in
-    rw (ne-eqb i 0 some) (sym (ap isBefore h) ∙ less-is (keyAt b (at - 24)) key ∙ (rw (back, held, start)))
+    let back : at - bookHeader b .rowSize ≡ rowStart b (i - 1) = omega (arith, start, some) in
+    rw (ne-eqb i 0 some) (sym (ap isBefore h) ∙ less-is (keyAt b (at - bookHeader b .rowSize)) key ∙ (rw (back, held, start)))
 
 -- a row's test is that of the row by itself, and that it stands after the one before it
 pub row-by-parts : (b t : List ℕ) (i : ℕ) → (rowFits b t (rowStart b i) && rises b i) ≡ rowOk b t i

@@ -44,7 +44,7 @@ fn key_at(b: &[u8], at: usize) -> Key
     key_from(b, at, byte_in(b, at, 10), byte_in(b, at, 11))
 }
 
-// How the last three fields of a row's key stand to these, the line's medium and pollutant among them.
+// How the last three fields of the key of the row that starts at `at` stand to those of this key with this scale.
 fn rest_order(b: &[u8], at: usize, k: Key, scale: usize) -> Order
     requires { ⌜ RowIn (now b) at ⌝ }
     ensures { λ r. ⌜ r ≡ listOrder (restFields (keyAt (now (b .entry)) at)) (restFields (atScale k scale)) ⌝ }
@@ -151,7 +151,8 @@ fn row_fits(b: &[u8], t: &[u8], runs: &[u16], size: usize, at: usize) -> bool
     }
 }
 
-// Whether row i, which starts at `at`, has a key above that of the row before it. The first has none before it.
+// Whether row i, which starts at `at`, has a key above that of the row before it, which is compared where it stands. The first has none
+// before it.
 fn row_rises(b: &[u8], i: usize, at: usize) -> bool
     requires { ⌜ RowIn (now b) at × (at ≡ rowStart (now b) i) ⌝ }
     ensures { λ r. ⌜ r ≡ rises (now (b .entry)) i ⌝ }

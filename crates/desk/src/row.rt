@@ -35,7 +35,7 @@ pub enum RowSearch {
     Miss,
 }
 
-// So many rows are looked at one after the other, as that is no slower than halving them.
+// Halving brings the search so near to the key; then row after row is looked at.
 const FEW_ROWS: usize = 8;
 
 // How many rows, from the first on, are known not to have the key: rows rise, so that half of those in question fall away at each turn,

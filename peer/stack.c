@@ -53,7 +53,8 @@ static uint64_t account_text(void)
 
 static uint64_t account_bundle(void)
 {
-    return checkraven_account_bundle(book.bytes, book.length, bundle.bytes, bundle.length, exact, RESULT_CELLS, shown, RESULT_CELLS, outcomes, CHECKRAVEN_MOST_SHEETS);
+    return checkraven_account_bundle(book.bytes, book.length, bundle.bytes, bundle.length, exact, RESULT_CELLS, shown, RESULT_CELLS,
+                                     outcomes, CHECKRAVEN_MOST_SHEETS);
 }
 
 static uint64_t report(void)

@@ -176,10 +176,13 @@ module _ (t : List ℕ) where
   unfolding lawful
   lawful-is k p q = rw (p, q)
 
+  run-step : (size k : ℕ) → k < size → runOf t (size - k) k ≡ runBefore t k (runOf t (size - (k + 1)) (k + 1))
+  unfolding runOf
+  run-step size k l = let n : size - k ≡ suc (size - (k + 1)) = omega arith in rw n
+
   module _ (size k end : ℕ) (below : k < end) (inside : end ≤ size) where
     step : runOf t (size - k) k ≡ runBefore t k (runOf t (size - (k + 1)) (k + 1))
-    unfolding runOf
-    step = let n : size - k ≡ suc (size - (k + 1)) = omega arith in rw n
+    step = run-step size k (omega arith)
 
     pub reaches-not : lawful t k ≡ false → false ≡ runReaches t size k end
     unfolding runReaches
@@ -229,12 +232,10 @@ module _ (t : List ℕ) where
   run-none n k e = rw e
 
   pub run-next : (size k r : ℕ) → 0 < k → k ≤ size → r ≡ runOf t (size - k) k → runBefore t (k - 1) r ≡ runOf t (size - (k - 1)) (k - 1)
-  unfolding runOf
   run-next size zero r p l e = absurd (omega arith)
   run-next size (suc k) r p l e =
       let m : suc k - 1 ≡ k = omega arith in
-      let n : size - k ≡ suc (size - suc k) = omega arith in
-      rw (m, n, add-one k, e)
+      rw (m, e) (sym (rw (add-one k) at (run-step size k (omega arith))))
 
   -- the runs that are kept from k on are filled in
   abbrev pub Filled : (size k : ℕ) → List ℕ → Type 0

@@ -4,7 +4,7 @@ use mathlib.Core.Path.{_≡_, refl}
 use native.Mathlib.Omega.{arith}
 use Rattle.answers.specs.Answer.{fileRule, lineRule, answerNumber, answerLine, numberUnit, codeOf}
 use Rattle.answers.specs.declared.answer.FileFault.{FileFault}
-use Rattle.answers.specs.declared.answer.FileFault.the-variants.{BookMalformed, SheetMalformed, TextMalformed, ResultTooShort}
+use Rattle.answers.specs.declared.answer.FileFault.the-variants.{BookMalformed, FugitiveMalformed, SheetMalformed, TextMalformed, ResultTooShort}
 use Rattle.answers.specs.declared.answer.LineFault.{LineFault}
 use Rattle.answers.specs.declared.answer.LineFault.the-variants as line
 use Rattle.answers.specs.declared.answer.Outcome.{Outcome}
@@ -13,6 +13,7 @@ use Rattle.answers.specs.declared.answer.Outcome.the-variants.{Accepted,
 -- a rule's number is at least 1
 pub file-some : (k : FileFault) → 1 ≤ fileRule k
 file-some BookMalformed = omega arith
+file-some FugitiveMalformed = omega arith
 file-some SheetMalformed = omega arith
 file-some TextMalformed = omega arith
 file-some ResultTooShort = omega arith
@@ -20,7 +21,9 @@ file-some ResultTooShort = omega arith
 pub line-some : (k : LineFault) → 1 ≤ lineRule k
 line-some line.ActivityTooLarge = omega arith
 line-some line.ReuseTooLarge = omega arith
+line-some line.BadGrade = omega arith
 line-some line.NoRow = omega arith
+line-some line.NoFugitiveEntry = omega arith
 line-some line.NoTechnique = omega arith
 line-some line.WrongKind = omega arith
 line-some line.BadReading = omega arith

@@ -1,7 +1,7 @@
 -- "Refusal numbers": the desk's answer by the paper's number and line.
 use Prim.Native.Nat.{ℕ, _+_, _*_}
 use Rattle.answers.specs.declared.answer.FileFault.{FileFault}
-use Rattle.answers.specs.declared.answer.FileFault.the-variants.{BookMalformed, SheetMalformed, TextMalformed, ResultTooShort}
+use Rattle.answers.specs.declared.answer.FileFault.the-variants.{BookMalformed, FugitiveMalformed, SheetMalformed, TextMalformed, ResultTooShort}
 use Rattle.answers.specs.declared.answer.LineFault.{LineFault}
 use Rattle.answers.specs.declared.answer.LineFault.the-variants as line
 use Rattle.answers.specs.declared.answer.Outcome.{Outcome}
@@ -9,6 +9,7 @@ use Rattle.answers.specs.declared.answer.Outcome.the-variants.{Accepted,
 
 abbrev pub fileRule : FileFault → ℕ
 fileRule BookMalformed = 1
+fileRule FugitiveMalformed = 13
 fileRule SheetMalformed = 2
 fileRule TextMalformed = 12
 fileRule ResultTooShort = 3
@@ -16,7 +17,9 @@ fileRule ResultTooShort = 3
 abbrev pub lineRule : LineFault → ℕ
 lineRule line.ActivityTooLarge = 4
 lineRule line.ReuseTooLarge = 5
+lineRule line.BadGrade = 15
 lineRule line.NoRow = 6
+lineRule line.NoFugitiveEntry = 14
 lineRule line.NoTechnique = 7
 lineRule line.WrongKind = 8
 lineRule line.BadReading = 9

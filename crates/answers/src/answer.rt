@@ -8,6 +8,7 @@ pub const NUMBER_UNIT: u64 = 65536;
 // What is wrong with a whole file or a whole result, in the order in which it is looked for. A sheet is a binary one or a text.
 pub enum FileFault {
     BookMalformed,
+    FugitiveMalformed,
     SheetMalformed,
     TextMalformed,
     ResultTooShort,
@@ -17,7 +18,9 @@ pub enum FileFault {
 pub enum LineFault {
     ActivityTooLarge,
     ReuseTooLarge,
+    BadGrade,
     NoRow,
+    NoFugitiveEntry,
     NoTechnique,
     WrongKind,
     BadReading,
@@ -33,12 +36,13 @@ pub enum Outcome {
 }
 
 impl FileFault {
-    // The number of the broken rule, 1 to 3 or 12.
+    // The number of the broken rule, 1 to 3, 12 or 13.
     pub fn number(self) -> u16
         ensures { λ r. ⌜ r ≡ fileRule self ⌝ }
     {
         match self {
             FileFault::BookMalformed => 1,
+            FileFault::FugitiveMalformed => 13,
             FileFault::SheetMalformed => 2,
             FileFault::TextMalformed => 12,
             FileFault::ResultTooShort => 3,
@@ -47,14 +51,16 @@ impl FileFault {
 }
 
 impl LineFault {
-    // The number of the broken rule, 4 to 11.
+    // The number of the broken rule, 4 to 11, 14 or 15.
     pub fn number(self) -> u16
         ensures { λ r. ⌜ r ≡ lineRule self ⌝ }
     {
         match self {
             LineFault::ActivityTooLarge => 4,
             LineFault::ReuseTooLarge => 5,
+            LineFault::BadGrade => 15,
             LineFault::NoRow => 6,
+            LineFault::NoFugitiveEntry => 14,
             LineFault::NoTechnique => 7,
             LineFault::WrongKind => 8,
             LineFault::BadReading => 9,

@@ -1,9 +1,9 @@
 -- What a line of a good book answers: numbers that the amounts are worked from, and a row that adds up and is small.
-use Prim.Native.Nat.{ℕ, _+_, _≤_, _<_}
+use Prim.Native.Nat.{ℕ, _+_, _*_, _≤_, _<_}
 use mathlib.Core.Bool.{Bool, true, false}
 use mathlib.Core.Path.{_≡_, refl, _∙_}
 use mathlib.Core.List.{List}
-use native.Mathlib.Nat.{mul-le-mul}
+use native.Mathlib.Nat.{mul-le-mul, mul-le-mul-right}
 use native.Mathlib.Omega.{arith}
 use lib.Dec.{ltb, eqb}
 use borrow.Author.Tests.{ltb-false}
@@ -11,6 +11,12 @@ use Rattle.search.specs.declared.found.Found.{Found}
 use Rattle.search.specs.declared.found.Found.the-variants.{At, Nothing}
 use Rattle.search.proofs.LawTest.{clash, either-way, or-left, or-right}
 use Rattle.search.proofs.LawFirst.{first-below}
+use Rattle.little.specs.Read.{AreBytes}
+use Rattle.little.proofs.LawRead.{part-bytes}
+use Rattle.fugitive.specs.Grades.{isGiven}
+use Rattle.fugitive.specs.Entry.{entrySize, factorsOf}
+use Rattle.fugitive.specs.Table.{entryStart, entryOf}
+use Rattle.fugitive.proofs.LawFugitive.{graded-gas, factors-most}
 use Rattle.amounts.specs.Line.{wholeShare, Admissible, amountsOf, workedOf, _over_, whole, manualValue, Sound}
 use Rattle.amounts.specs.declared.line.Amounts.{Amounts}
 use Rattle.amounts.specs.declared.line.Worked.{Worked}
@@ -23,12 +29,15 @@ use Rattle.desk.specs.Row.{rowOf}
 use Rattle.desk.specs.Technique.{techniqueHas, techniqueIndex}
 use Rattle.shares.specs.Share.{shareBy}
 use Rattle.desk.specs.Line.{mostKilograms, lineOf}
-use Rattle.desk.specs.Lent.{Lent}
+use Rattle.desk.specs.Dust.{unitsPerFactor, dustBy, dustOf, entryIndex}
+use Rattle.desk.specs.Lent.{Sources, Lent}
 use Rattle.desk.specs.Cells.{width, cellsOf, rowFrom}
-use Rattle.desk.specs.Account.{treated, byTechnique, treatmentOf, generatedOf, inWater, byTreatment, byRow}
-use Rattle.desk.specs.Account.{excessive, accountOf, lineOutcome}
-use Rattle.desk.specs.Inner.{Moderate, GoodRow}
+use Rattle.desk.specs.Account.{treated, byTechnique, treatmentOf, generatedOf, inWater, byTreatment, byDust, byRow}
+use Rattle.desk.specs.Account.{excessive, misgraded, accountOf, lineOutcome}
+use Rattle.desk.specs.Inner.{Moderate, GoodRow, mostDust, SmallDust, OfDust}
 use Rattle.desk.specs.declared.line.Line.{Line}
+use Rattle.desk.specs.declared.dust.Dust.{Dust}
+use Rattle.desk.specs.declared.dust.Dust.the-variants.{Escapes, NoEntry}
 use Rattle.desk.specs.declared.row.Row.{Row}
 use Rattle.desk.specs.declared.row.RowSearch.{RowSearch}
 use Rattle.desk.specs.declared.row.RowSearch.the-variants.{Hit, Miss}
@@ -95,55 +104,91 @@ module _ (u : ℕ) (reuse : u ≤ wholeShare) where
         (λ g. technique-admissible (techniqueIndex t (row .first) (row .techniques) technique)
         (λ j q. first-below (techniqueHas t (row .first) technique) (row .techniques) j q) e n d (rw g at h))
 
--- ---- the row adds up, and is at most 10^17
+-- ---- what escapes is small
+
+-- a line that rule 15 leaves, with a grade, is of particulates in gas
+pub graded-key : (line : Line) → isGiven (line .grades) ≡ true → misgraded line ≡ false → OfDust (line .key)
+graded-key line given h =
+    let of = graded-gas (line .grades) (line .key .medium) (line .key .pollutant) given h in
+    record { medium = of .0; pollutant = of .1 }
+
+-- so many factors at most, of 100 units each, on at most so many kilograms
+pub dust-most : (factors product : ℕ) → factors ≤ 196_605 → product ≤ mostKilograms → factors * unitsPerFactor * product ≤ mostDust
+dust-most factors product f p = mul-le-mul (mul-le-mul-right unitsPerFactor f) p
+
+dust-small : (f : List ℕ) (line : Line) → AreBytes f → line .product ≤ mostKilograms → SmallDust (dustOf f line)
+unfolding dustOf
+dust-small f line bytes product =
+    either-way (isGiven (line .grades)) (λ g. rw g (by (entryIndex f (line .key)))) (λ g. rw g (omega arith))
+  where
+    by : (place : Found) → SmallDust (dustBy f line place)
+    by Nothing = tt
+    by (At i) = dust-most (factorsOf (entryOf f i) (line .grades)) (line .product) (factors-most (entryOf f i) (line .grades) (part-bytes f (entryStart f i) entrySize bytes)) product
+
+-- ---- the row adds up, and is at most 10^17 and what escapes
 
 -- what a coefficient and an activity make, at most
+abbrev ductedMost : ℕ
+ductedMost = 100_000_000_000_000_000
+
+-- with what escapes: 10^17 + 3 × 65,535 × 100 × 10^9
 abbrev pub lineMost : ℕ
-lineMost = 100_000_000_000_000_000
+lineMost = 119_660_500_000_000_000
 
 -- what is written where a line gives a row
 abbrev pub Balances : LineOutcome → Type 0
 Balances (Given row) = Balanced width lineMost (cellsOf row)
 Balances (Refusal fault) = Unit
 
-amounts-balanced : (most : ℕ) (a : Amounts) → a .generated ≡ a .removed + a .reused + a .discharged → a .generated ≤ most
-    → Balanced width most (cellsOf (rowFrom a))
+amounts-balanced : (a : Amounts) (F : ℕ) → a .generated ≡ a .removed + a .reused + a .discharged → a .generated ≤ ductedMost → F ≤ mostDust
+    → Balanced width lineMost (cellsOf (rowFrom a F))
 unfolding sum
-amounts-balanced most a adds small = record { adds = omega arith; small = small }
+amounts-balanced a F adds small dust = record { adds = omega arith; small = omega arith }
 
-generated-small : (row : Row) (line : Line) → row .coefficient ≤ mostCoefficient → Moderate line → generatedOf row line ≤ lineMost
+pub generated-small : (row : Row) (line : Line) → row .coefficient ≤ mostCoefficient → Moderate line → generatedOf row line ≤ ductedMost
 unfolding generatedOf
 generated-small row line c m =
     either-way (eqb (row .basis) 1) (λ e. rw e (mul-le-mul c (m .product))) (λ e. rw e (mul-le-mul c (m .material)))
 
-treatment-balances : (row : Row) (line : Line) (k : Treatment) → generatedOf row line ≤ lineMost
-    → ((e n d : ℕ) → k ≡ By e n d → Admissible e n d (line .reuse)) → Balances (byTreatment row line k)
-treatment-balances row line (NoTreatment fault) small ok = tt
-treatment-balances row line (By e n d) small ok =
+treatment-balances : (row : Row) (line : Line) (F : ℕ) (k : Treatment) → generatedOf row line ≤ ductedMost → F ≤ mostDust
+    → ((e n d : ℕ) → k ≡ By e n d → Admissible e n d (line .reuse)) → Balances (byTreatment row line F k)
+treatment-balances row line F (NoTreatment fault) small dust ok = tt
+treatment-balances row line F (By e n d) small dust ok =
     let G = generatedOf row line in
-    amounts-balanced lineMost (amountsOf G e n d (line .reuse) (inWater line)) (sound G e n d (line .reuse) (inWater line) (ok e n d refl) .sum) small
+    amounts-balanced (amountsOf G e n d (line .reuse) (inWater line)) F (sound G e n d (line .reuse) (inWater line) (ok e n d refl) .sum) small dust
 
-row-balances : (b : List ℕ) (line : Line) (f : RowSearch) → bookOk b ≡ true → rowOf b (line .key) ≡ f → Moderate line → line .reuse ≤ wholeShare
-    → Balances (byRow (techniqueBlock b) line f)
-row-balances b line Miss good e moderate reuse = tt
-row-balances b line (Hit row) good e moderate reuse =
-    let g = hit-good b (line .key) row good e in
-    let t = techniqueBlock b in
-    treatment-balances row line (treatmentOf t row (line .technique) (line .reading)) (generated-small row line (g .coefficient) moderate)
-    (treatment-admissible (line .reuse) reuse t row g (line .reading) (line .technique))
+module _ (from : Sources) (good : bookOk (from .book) ≡ true) (bytes : AreBytes (from .fugitive)) (line : Line) where
+  abbrev block : List ℕ
+  block = techniqueBlock (from .book)
 
-pub account-balances : (b : List ℕ) (line : Line) → bookOk b ≡ true → Balances (accountOf b line)
-unfolding accountOf
-account-balances b line good =
-    either-way (excessive line)
-    (λ p. rw p tt)
-    (λ p. either-way (ltb wholeShare (line .reuse))
-    (λ q. rw (p, q) tt)
-    (λ q. rw (p, q) (row-balances b line (rowOf b (line .key)) good refl (moderate line p) (ltb-false wholeShare (line .reuse) q))))
+  dust-balances : (row : Row) (dust : Dust) → rowOf (from .book) (line .key) ≡ Hit row → SmallDust dust → Moderate line → line .reuse ≤ wholeShare
+      → Balances (byDust block row line dust)
+  dust-balances row NoEntry e small moderate reuse = tt
+  dust-balances row (Escapes F) e small moderate reuse =
+      let g = hit-good (from .book) (line .key) row good e in
+      treatment-balances row line F (treatmentOf block row (line .technique) (line .reading)) (generated-small row line (g .coefficient) moderate) small
+      (treatment-admissible (line .reuse) reuse block row g (line .reading) (line .technique))
 
-pub line-balances : (f : Lent) → bookOk (f .book) ≡ true → (i : ℕ) → Balances (lineOutcome f i)
+  row-balances : (f : RowSearch) → rowOf (from .book) (line .key) ≡ f → Moderate line → line .reuse ≤ wholeShare
+      → Balances (byRow block (from .fugitive) line f)
+  row-balances Miss e moderate reuse = tt
+  row-balances (Hit row) e moderate reuse =
+      dust-balances row (dustOf (from .fugitive) line) e (dust-small (from .fugitive) line bytes (moderate .product)) moderate reuse
+
+  pub account-balances : Balances (accountOf from line)
+  unfolding accountOf
+  account-balances =
+      either-way (excessive line)
+      (λ p. rw p tt)
+      (λ p. either-way (ltb wholeShare (line .reuse))
+      (λ q. rw (p, q) tt)
+      (λ q. either-way (misgraded line)
+      (λ g. rw (p, q, g) tt)
+      (λ g. rw (p, q, g) (row-balances (rowOf (from .book) (line .key)) refl (moderate line p) (ltb-false wholeShare (line .reuse) q)))))
+
+pub line-balances : (f : Lent) → bookOk (f .sources .book) ≡ true → AreBytes (f .sources .fugitive) → (i : ℕ) → Balances (lineOutcome f i)
 unfolding lineOutcome
-line-balances f good i = account-balances (f .book) (lineOf (f .sheet) i) good
+line-balances f good bytes i = account-balances (f .sources) good bytes (lineOf (f .sheet) i)
 
 -- ---- demand 2 of a line: D is not below the manual's exact value, worked from the line's own numbers, and less than two units above it
 

@@ -14,14 +14,17 @@ use Rattle.headers.specs.Sheet.{lineCount}
 use Rattle.headers.specs.Unit.{unitOfSheet}
 use Rattle.shares.specs.Share.{shareBy}
 use Rattle.shares.specs.declared.share.Reading.{Reading}
-use Rattle.desk.specs.Lent.{lent}
+use Rattle.desk.specs.Lent.{Sources, lent}
 use Rattle.desk.specs.Row.{rowOf}
 use Rattle.desk.specs.Sheet.{sheetOk}
 use Rattle.desk.specs.Technique.{techniqueIndex}
-use Rattle.desk.specs.Account.{byTechnique, treatmentOf, generatedOf, byTreatment, byRow, accountOf, lineOutcome}
+use Rattle.desk.specs.Dust.{entryIndex, dustBy, dustOf}
+use Rattle.desk.specs.Account.{byTechnique, treatmentOf, generatedOf, byTreatment, byDust, byRow, accountOf, lineOutcome}
 use Rattle.desk.specs.Table.{rows, total, tableOf, byFiles, byLines, answerOf, cellsAfter}
 use Rattle.desk.specs.Declare.{shownAfter, Declared}
 use Rattle.desk.specs.declared.line.Line.{Line}
+use Rattle.desk.specs.declared.dust.Dust.{Dust}
+use Rattle.desk.specs.declared.dust.Dust.the-variants.{Escapes, NoEntry}
 use Rattle.desk.specs.declared.row.Row.{Row}
 use Rattle.desk.specs.declared.row.RowSearch.{RowSearch}
 use Rattle.desk.specs.declared.row.RowSearch.the-variants.{Hit, Miss}
@@ -44,14 +47,25 @@ withReading line reading =
       product = line .product;
       material = line .material;
       reading = reading;
+      grades = line .grades;
     }
 
 -- what a treatment makes of the line does not depend on the reading
-made-alike : (row : Row) (line : Line) (one other : Reading) (k : Treatment)
-    → byTreatment row (withReading line one) k ≡ byTreatment row (withReading line other) k
+made-alike : (row : Row) (line : Line) (one other : Reading) (F : ℕ) (k : Treatment)
+    → byTreatment row (withReading line one) F k ≡ byTreatment row (withReading line other) F k
 unfolding generatedOf
-made-alike row line one other (NoTreatment fault) = refl
-made-alike row line one other (By e n d) = refl
+made-alike row line one other F (NoTreatment fault) = refl
+made-alike row line one other F (By e n d) = refl
+
+-- nor does what escapes
+place-alike : (f : List ℕ) (line : Line) (one other : Reading) (place : Found)
+    → dustBy f (withReading line one) place ≡ dustBy f (withReading line other) place
+place-alike f line one other Nothing = refl
+place-alike f line one other (At i) = refl
+
+dust-alike : (f : List ℕ) (line : Line) (one other : Reading) → dustOf f (withReading line one) ≡ dustOf f (withReading line other)
+unfolding dustOf
+dust-alike f line one other = rw (place-alike f line one other (entryIndex f (line .key)))
 
 module _ (t : List ℕ) (row : Row) (one other : Reading) where
   pub technique-alike : shareBy one (row .rule) ≡ shareBy other (row .rule) → (place : Found)
@@ -68,18 +82,26 @@ module _ (t : List ℕ) (row : Row) (one other : Reading) where
       (λ z. rw z)
       (λ z. rw (z, technique-alike (alike (eqb-false technique 0 z)) (techniqueIndex t (row .first) (row .techniques) technique)))
 
-module _ (b : List ℕ) (line : Line) (one other : Reading)
-    (alike : (row : Row) → rowOf b (line .key) ≡ Hit row → (line .technique ≡ 0 → ⊥) → shareBy one (row .rule) ≡ shareBy other (row .rule)) where
-  row-alike : (found : RowSearch) → rowOf b (line .key) ≡ found
-      → byRow (techniqueBlock b) (withReading line one) found ≡ byRow (techniqueBlock b) (withReading line other) found
-  row-alike Miss e = refl
-  row-alike (Hit row) e =
-      let same = treatment-alike (techniqueBlock b) row one other (line .technique) (alike row e) in
-      rw (same, made-alike row line one other (treatmentOf (techniqueBlock b) row (line .technique) other))
+module _ (from : Sources) (line : Line) (one other : Reading)
+    (alike : (row : Row) → rowOf (from .book) (line .key) ≡ Hit row → (line .technique ≡ 0 → ⊥) → shareBy one (row .rule) ≡ shareBy other (row .rule)) where
+  abbrev block : List ℕ
+  block = techniqueBlock (from .book)
 
-  pub account-alike : accountOf b (withReading line one) ≡ accountOf b (withReading line other)
+  escaped-alike : (row : Row) → rowOf (from .book) (line .key) ≡ Hit row → (dust : Dust)
+      → byDust block row (withReading line one) dust ≡ byDust block row (withReading line other) dust
+  escaped-alike row e NoEntry = refl
+  escaped-alike row e (Escapes F) =
+      let same = treatment-alike block row one other (line .technique) (alike row e) in
+      rw (same, made-alike row line one other F (treatmentOf block row (line .technique) other))
+
+  row-alike : (found : RowSearch) → rowOf (from .book) (line .key) ≡ found
+      → byRow block (from .fugitive) (withReading line one) found ≡ byRow block (from .fugitive) (withReading line other) found
+  row-alike Miss e = refl
+  row-alike (Hit row) e = rw (dust-alike (from .fugitive) line one other, escaped-alike row e (dustOf (from .fugitive) (withReading line other)))
+
+  pub account-alike : accountOf from (withReading line one) ≡ accountOf from (withReading line other)
   unfolding accountOf
-  account-alike = rw (row-alike (rowOf b (line .key)) refl)
+  account-alike = rw (row-alike (rowOf (from .book) (line .key)) refl)
 
 -- ---- lines that answer alike
 
@@ -105,36 +127,37 @@ module _ (l m : ℕ → LineOutcome) where
 
 -- ---- sheets that account alike
 
-module _ (book s s' : List ℕ) (right : sheetOk s ≡ sheetOk s') (count : lineCount s ≡ lineCount s')
-    (each : (i : ℕ) → i < lineCount s → lineOutcome (lent book s) i ≡ lineOutcome (lent book s') i) where
-  pub answers-alike : (room : ℕ) → answerOf (lent book s) room ≡ answerOf (lent book s') room
+module _ (from : Sources) (s s' : List ℕ) (right : sheetOk s ≡ sheetOk s') (count : lineCount s ≡ lineCount s')
+    (each : (i : ℕ) → i < lineCount s → lineOutcome (lent from s) i ≡ lineOutcome (lent from s') i) where
+  pub answers-alike : (room : ℕ) → answerOf (lent from s) room ≡ answerOf (lent from s') room
   unfolding answerOf byFiles
   answers-alike room =
-      rw (lines-alike (lineOutcome (lent book s)) (lineOutcome (lent book s')) (lineCount s) each, right, count)
+      rw (lines-alike (lineOutcome (lent from s)) (lineOutcome (lent from s')) (lineCount s) each, right, count)
 
-  pub tables-alike : tableOf (lineCount s) (lineOutcome (lent book s)) ≡ tableOf (lineCount s') (lineOutcome (lent book s'))
+  pub tables-alike : tableOf (lineCount s) (lineOutcome (lent from s)) ≡ tableOf (lineCount s') (lineOutcome (lent from s'))
   tables-alike =
-      table-alike (lineOutcome (lent book s)) (lineOutcome (lent book s')) (lineCount s) each
-      ∙ ap (λ (n : ℕ). tableOf n (lineOutcome (lent book s'))) count
+      table-alike (lineOutcome (lent from s)) (lineOutcome (lent from s')) (lineCount s) each
+      ∙ ap (λ (n : ℕ). tableOf n (lineOutcome (lent from s'))) count
 
   module _ (unit : unitOfSheet s ≡ unitOfSheet s') where
     exact-after : (r : Outcome) (cells : List ℕ)
-        → cellsAfter r (lineCount s) (lineOutcome (lent book s)) cells ≡ cellsAfter r (lineCount s') (lineOutcome (lent book s')) cells
+        → cellsAfter r (lineCount s) (lineOutcome (lent from s)) cells ≡ cellsAfter r (lineCount s') (lineOutcome (lent from s')) cells
     unfolding cellsAfter
     exact-after Accepted cells = rw (tables-alike, count)
     exact-after (RefusedFile fault) cells = refl
     exact-after (RefusedLine fault line) cells = refl
 
-    pub shown-alike : (r : Outcome) (cells : List ℕ) → shownAfter r (lent book s) cells ≡ shownAfter r (lent book s') cells
+    pub shown-alike : (r : Outcome) (cells : List ℕ) → shownAfter r (lent from s) cells ≡ shownAfter r (lent from s') cells
     unfolding shownAfter
     shown-alike Accepted cells = rw (tables-alike, unit, count)
     shown-alike (RefusedFile fault) cells = refl
     shown-alike (RefusedLine fault line) cells = refl
 
-    pub declared-alike : (exact shown : List ℕ) (r : Outcome) (exact' shown' : List ℕ) → Declared (lent book s) exact shown r exact' shown'
-        → Declared (lent book s') exact shown r exact' shown'
+    pub declared-alike : (exact shown : List ℕ) (r : Outcome) (exact' shown' : List ℕ) → Declared (lent from s) exact shown r exact' shown'
+        → Declared (lent from s') exact shown r exact' shown'
     declared-alike exact shown r exact' shown' promised =
         let both = promised .tables in
-        declared (lent book s') exact shown r exact' shown' (promised .demand1 .answer ∙ answers-alike (min (length exact) (length shown)))
+        declared (lent from s') exact shown r exact' shown' (promised .demand1 .answer ∙ answers-alike (min (length exact) (length shown)))
         (record { table = both .table ∙ exact-after r exact; shows = both .shows ∙ shown-alike r shown })
+        (λ yes. rw count at (promised .demand1 .shownPast yes))
         (λ yes. rw (unit, count) at (promised .demand3 yes))

@@ -1,4 +1,4 @@
--- What a good book says of its rows, and a right header of where rows and lines lie.
+-- What a good book says of its rows, and a right header of where rows, lines and entries lie.
 use Prim.Native.Nat.{ℕ, zero, suc, _+_, _*_, _≤_, _<_}
 use mathlib.Core.Bool.{Bool, true, false, _||_, not}
 use mathlib.Core.Path.{_≡_, sym, _∙_}
@@ -18,7 +18,10 @@ use Rattle.desk.specs.Book.{techniqueCode, techniqueEfficiency, techniqu
 use Rattle.desk.specs.Book.{rowOk, rowsOk, bookOk}
 use Rattle.headers.specs.Sheet.{sheetHeader, sheetHeaderSize, sheetFits, sheetHeaderOk, lineSize, lineCount}
 use Rattle.desk.specs.Sheet.{lineStart}
-use Rattle.desk.specs.Inner.{Listed, RowIn, LineIn}
+use Rattle.fugitive.specs.Entry.{entrySize}
+use Rattle.fugitive.specs.Table.{fugitiveHeader, fugitiveHeaderSize, entryCount, fugitiveFits, fugitiveHeaderOk, entryStart}
+use Rattle.desk.specs.Entries.{entriesOk, fugitiveOk}
+use Rattle.desk.specs.Inner.{Listed, RowIn, LineIn, EntryIn}
 use Rattle.desk.proofs.LawRun.{ok-rises}
 
 -- a loop over n that stops at a number where the test fails
@@ -89,6 +92,22 @@ line-in s h i l =
     let whole : u32At s 0 ≡ length s = file-whole s 0 sheetHeaderSize (and-left file (sheetFits header) h) in
     let last = leb-true (header .lineOffset + lineSize * header .lines) (header .length) (every-at _ fits 5) in
     omega (arith, whole, last)
+
+-- ---- where the fugitive table's header is right, its entries lie in the table
+
+pub entry-in : (f : List ℕ) → fugitiveHeaderOk f ≡ true → (i : ℕ) → i < entryCount f → EntryIn f (entryStart f i)
+unfolding fugitiveHeaderOk
+entry-in f h i l =
+    let header = fugitiveHeader f in
+    let file = fileOk f 0 fugitiveHeaderSize in
+    let fits = and-right file (fugitiveFits header) h in
+    let whole : u32At f 0 ≡ length f = file-whole f 0 fugitiveHeaderSize (and-left file (fugitiveFits header) h) in
+    let last = leb-true (header .offset + entrySize * header .entries) (header .length) (every-at _ fits 3) in
+    omega (arith, whole, last)
+
+pub right-entry-in : (f : List ℕ) → fugitiveOk f ≡ true → (i : ℕ) → i < entryCount f → EntryIn f (entryStart f i)
+unfolding fugitiveOk
+right-entry-in f right i l = entry-in f (and-left (fugitiveHeaderOk f) (entriesOk f) right) i l
 
 -- ---- rows of a good book
 

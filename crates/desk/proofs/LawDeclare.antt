@@ -7,8 +7,9 @@ use mathlib.Core.Logic.{⊎-elim, _≢_}
 use native.Mathlib.Omega.{arith}
 use native.Mathlib.Nat.{le-of-suc-le-suc, eq-or-lt-of-le, div-add-mod', mod-lt, div-lt-iff-lt-mul}
 use lib.ListN.{length, take, drop, replicate, length-append, List·getD-append}
-use lib.Seq.{getD-append-add, take-at}
+use lib.Seq.{getD-append-add, take-at, drop-at}
 use lib.Dec.{eqb, lit<, lit≤}
+use Rattle.little.specs.Read.{AreBytes}
 use Rattle.settle.specs.Grid.{Grid, area}
 use Rattle.settle.specs.Shown.{at, Whole, sum, Sums, Shown}
 use Rattle.settle.specs.Table.{limit, Good}
@@ -86,6 +87,10 @@ module _ (l : ℕ → LineOutcome) where
         rw (e, column-sum m j (omega arith) k, line-cell n m j (cellsOf (total n l .sums)) h k)
         (sym (zip-at (cellsOf (total m l .sums)) (cellsOf (rowGiven (l m))) refl j))
 
+    -- the last row has the columns' sums
+    pub columns-right : (j : ℕ) → j < width → at (tableOf n l) (n * width + j) ≡ sum (tableOf n l) j width n
+    columns-right j h = total-cell j ∙ sym (column-sum n j (omega arith) h)
+
     -- ---- a table whose lines balance
 
     module _ (f : (k : ℕ) → Balances (l k)) (few : n ≤ mostLines) where
@@ -119,7 +124,7 @@ module _ (l : ℕ → LineOutcome) where
           let less : n + 1 - 1 ≡ n = omega arith in
           record {
             rows = λ i h. let r = table-row i h in row-adds-up width i (tableOf n l) (r .cells) (r .stands) (lit< tt) (r .balanced .adds);
-            columns = λ j h. rw less (total-cell j ∙ sym (column-sum n j (omega arith) h));
+            columns = λ j h. rw less (columns-right j h);
           }
 
       -- such a table can be settled, in any unit of the sheet
@@ -150,12 +155,12 @@ first-cells n l cells after e = rw e (take-at (tableOf n l) (drop (tableSize n) 
 shown-over : (g : Grid) (t rest s : List ℕ) → length t ≡ area g → Shown g t s → Shown g (t ++ rest) s
 shown-over g t rest s e h = record { cells = λ i l. rw (List·getD-append t rest 0 i (omega arith)) (h .cells i l); sums = h .sums }
 
-module _ (f : Lent) (good : bookOk (f .book) ≡ true) (right : sheetOk (f .sheet) ≡ true) where
+module _ (f : Lent) (good : bookOk (f .sources .book) ≡ true) (bytes : AreBytes (f .sources .fugitive)) (right : sheetOk (f .sheet) ≡ true) where
   few : lineCount (f .sheet) ≤ mostLines
   few = lines-few (f .sheet) right
 
   pub settles : Good (tableGrid (unitOfSheet (f .sheet)) (lineCount (f .sheet))) (tableOf (lineCount (f .sheet)) (lineOutcome f))
-  settles = can-be-settled (lineOutcome f) (lineCount (f .sheet)) (line-balances f good) few (sheetHeader (f .sheet) .shownUnit)
+  settles = can-be-settled (lineOutcome f) (lineCount (f .sheet)) (line-balances f good bytes) few (sheetHeader (f .sheet) .shownUnit)
 
   module _ (n W : ℕ) (exact exact' : List ℕ) (e : n ≡ lineCount (f .sheet)) (u : W ≡ unitOfSheet (f .sheet))
       (a : exact' ≡ cellsAfter Accepted (lineCount (f .sheet)) (lineOutcome f) exact) where
@@ -182,6 +187,14 @@ module _ (f : Lent) (good : bookOk (f .book) ≡ true) (right : sheetOk (f .shee
 
       pub tables-shown : BothAfter f exact shown Accepted exact' shown'
       tables-shown = record { table = a; shows = is-shown }
+
+      pub past-kept : drop (tableSize (lineCount (f .sheet))) shown' ≡ drop (tableSize (lineCount (f .sheet))) shown
+      unfolding shownAfter
+      past-kept =
+          let n = lineCount (f .sheet) in
+          let g = tableGrid (unitOfSheet (f .sheet)) n in
+          let size = shown-length settles in
+          rw is-shown (drop-at (shownTable g (tableOf n (lineOutcome f))) (drop (tableSize n) shown) (tableSize n) (omega arith))
 
       pub allows : Demand3 f exact' shown'
       unfolding cellsAfter shownAfter

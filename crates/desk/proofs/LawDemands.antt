@@ -13,24 +13,25 @@ use borrow.Author.Tests.{ltb-false}
 use Rattle.search.proofs.LawTest.{clash, either-way}
 use Rattle.amounts.specs.Line.{wholeShare, amountsOf}
 use Rattle.settle.specs.Shown.{at, sum}
-use Rattle.settle.specs.Step.{shownTable}
-use Rattle.settle.proofs.LawShown.{shown-length}
-use Rattle.desk.specs.Lent.{Lent}
+use Rattle.desk.specs.Dust.{dustOf}
+use Rattle.desk.specs.Lent.{Sources, Lent}
 use Rattle.headers.specs.Book.{techniqueBlock}
 use Rattle.desk.specs.Book.{bookOk}
+use Rattle.desk.specs.Entries.{fugitiveOk}
 use Rattle.desk.specs.Row.{rowOf}
 use Rattle.desk.specs.Line.{lineOf}
 use Rattle.headers.specs.Sheet.{lineCount, mostLines}
 use Rattle.desk.specs.Sheet.{sheetOk}
 use Rattle.desk.specs.Cells.{width, tableSize, cellsOf}
-use Rattle.desk.specs.Account.{treatmentOf, generatedOf, inWater, byTreatment, byRow, excessive, accountOf, lineOutcome}
+use Rattle.desk.specs.Account.{treatmentOf, generatedOf, inWater, byTreatment, byDust, byRow, excessive, misgraded, accountOf, lineOutcome}
 use Rattle.answers.specs.Answer.{fileRule, lineRule, answerNumber, answerLine}
-use Rattle.desk.specs.Table.{rowGiven, tableOf, byFiles, orLine, byLines, orElseLines, answerOf, cellsAfter}
-use Rattle.headers.specs.Unit.{unitOfSheet}
-use Rattle.desk.specs.Demands.{OfFile, OfLine, tableGrid, Demand1, LineDemand, cellAt, Demand2, Demand3}
+use Rattle.desk.specs.Table.{rowGiven, tableOf, bySources, bySheet, orNext, byFiles, orLine, byLines, answerOf, cellsAfter}
+use Rattle.desk.specs.Demands.{Between, OfFile, OfLine, Demand1, LineDemand, cellAt, Demand2, Demand3}
 use Rattle.desk.specs.Declare.{shownAfter, BothAfter, Declared}
 use Rattle.desk.specs.Inner.{Ready}
 use Rattle.desk.specs.declared.line.Line.{Line}
+use Rattle.desk.specs.declared.dust.Dust.{Dust}
+use Rattle.desk.specs.declared.dust.Dust.the-variants.{Escapes, NoEntry}
 use Rattle.desk.specs.declared.row.Row.{Row}
 use Rattle.desk.specs.declared.row.RowSearch.{RowSearch}
 use Rattle.desk.specs.declared.row.RowSearch.the-variants.{Hit, Miss}
@@ -43,31 +44,38 @@ use Rattle.answers.specs.declared.answer.LineFault.the-variants as of
 use Rattle.answers.specs.declared.answer.Outcome.{Outcome}
 use Rattle.answers.specs.declared.answer.Outcome.the-variants.{Accepted, RefusedFile, RefusedLine}
 use Rattle.desk.specs.declared.cells.TableRow.{TableRow}
-use Rattle.answers.proofs.LawCode.{file-some}
 use Rattle.desk.proofs.LawColumns.{sum-same}
-use Rattle.desk.proofs.LawAccount.{line-sound, line-balances}
-use Rattle.desk.proofs.LawTable.{ready, lines-few}
-use Rattle.desk.proofs.LawDeclare.{line-cell, table-size, sums-right, settles}
+use Rattle.desk.proofs.LawAccount.{line-sound}
+use Rattle.desk.proofs.LawTable.{accepted-both, ready, lines-few}
+use Rattle.desk.proofs.LawDeclare.{line-cell, table-size, columns-right}
 
 -- ---- demand 1: numbers and lines
 
 abbrev Numbered : (lines number line : ℕ) → Type 0
 Numbered lines number line = OfFile number line ⊎ OfLine lines number line
 
-line-rules : (k : LineFault) → (4 ≤ lineRule k) × (lineRule k ≤ 11)
-line-rules of.ActivityTooLarge = (omega arith, omega arith)
-line-rules of.ReuseTooLarge = (omega arith, omega arith)
-line-rules of.NoRow = (omega arith, omega arith)
-line-rules of.NoTechnique = (omega arith, omega arith)
-line-rules of.WrongKind = (omega arith, omega arith)
-line-rules of.BadReading = (omega arith, omega arith)
-line-rules of.ZeroDivisor = (omega arith, omega arith)
-line-rules of.KAboveOne = (omega arith, omega arith)
+abbrev OfFiles : (number : ℕ) → Type 0
+OfFiles number = Between 1 3 number ⊎ (number ≡ 13)
 
--- a whole file or result is refused by the first three rules, and a refused line is one of so many
+abbrev OfLines : (number : ℕ) → Type 0
+OfLines number = Between 4 11 number ⊎ Between 14 15 number
+
+line-rules : (k : LineFault) → OfLines (lineRule k)
+line-rules of.ActivityTooLarge = inl (record { low = omega arith; high = omega arith })
+line-rules of.ReuseTooLarge = inl (record { low = omega arith; high = omega arith })
+line-rules of.BadGrade = inr (record { low = omega arith; high = omega arith })
+line-rules of.NoRow = inl (record { low = omega arith; high = omega arith })
+line-rules of.NoFugitiveEntry = inr (record { low = omega arith; high = omega arith })
+line-rules of.NoTechnique = inl (record { low = omega arith; high = omega arith })
+line-rules of.WrongKind = inl (record { low = omega arith; high = omega arith })
+line-rules of.BadReading = inl (record { low = omega arith; high = omega arith })
+line-rules of.ZeroDivisor = inl (record { low = omega arith; high = omega arith })
+line-rules of.KAboveOne = inl (record { low = omega arith; high = omega arith })
+
+-- a whole file or result is refused by rules 1 to 3 or 13, and a refused line is one of so many
 abbrev Within : (n : ℕ) (r : Outcome) → Type 0
 Within n Accepted = Unit
-Within n (RefusedFile k) = fileRule k ≤ 3
+Within n (RefusedFile k) = OfFiles (fileRule k)
 Within n (RefusedLine k line) = (1 ≤ line) × (line ≤ n)
 
 one-more : (n : ℕ) (r : Outcome) (o : LineOutcome) → Within n r → Within (suc n) (orLine r o n)
@@ -81,20 +89,29 @@ unfolding byLines
 lines-within zero l = tt
 lines-within (suc n) l = one-more n (byLines n l) (l n) (lines-within n l)
 
+both-within : (n : ℕ) (first next : Outcome) → Within 0 first → Within n next → Within n (orNext first next)
+both-within n Accepted next h g = g
+both-within n (RefusedFile k) next h g = h
+both-within n (RefusedLine k line) next h g = (h .0, omega (arith, h .0, h .1))
+
 -- before the lines no line is refused
+sources-within : (from : Sources) → Within 0 (bySources from)
+unfolding bySources
+sources-within from =
+    either-way (bookOk (from .book))
+    (λ p. either-way (fugitiveOk (from .fugitive)) (λ q. rw (p, q) tt) (λ q. rw (p, q) (inr refl)))
+    (λ p. rw p (inl (record { low = omega arith; high = omega arith })))
+
+sheet-within : (s : List ℕ) (room : ℕ) → Within 0 (bySheet s room)
+sheet-within s room =
+    either-way (sheetOk s)
+    (λ q. either-way (leb (tableSize (lineCount s)) room) (λ l. rw (q, l) tt) (λ l. rw (q, l) (inl (record { low = omega arith; high = omega arith }))))
+    (λ q. rw q (inl (record { low = omega arith; high = omega arith })))
+
 files-within : (f : Lent) (room : ℕ) → Within 0 (byFiles f room)
 unfolding byFiles
 files-within f room =
-    either-way (bookOk (f .book))
-    (λ p. either-way (sheetOk (f .sheet))
-    (λ q. either-way (leb (tableSize (lineCount (f .sheet))) room) (λ l. rw (p, q, l) tt) (λ l. rw (p, q, l) (omega arith)))
-    (λ q. rw (p, q) (omega arith)))
-    (λ p. rw p (omega arith))
-
-both-within : (n : ℕ) (files lines : Outcome) → Within 0 files → Within n lines → Within n (orElseLines files lines)
-both-within n Accepted lines h g = g
-both-within n (RefusedFile k) lines h g = h
-both-within n (RefusedLine k line) lines h g = (h .0, omega (arith, h .0, h .1))
+    both-within 0 (bySources (f .sources)) (bySheet (f .sheet) room) (sources-within (f .sources)) (sheet-within (f .sheet) room)
 
 answer-within : (f : Lent) (room : ℕ) → Within (lineCount (f .sheet)) (answerOf f room)
 unfolding answerOf
@@ -103,8 +120,8 @@ answer-within f room =
 
 numbered : (n : ℕ) (r : Outcome) → Within n r → r ≢ Accepted → Numbered n (answerNumber r) (answerLine r)
 numbered n Accepted h refused = absurd (refused refl)
-numbered n (RefusedFile k) h refused = inl (record { first = file-some k; last = h; none = refl })
-numbered n (RefusedLine k line) h refused = let rule = line-rules k in inr (record { first = rule .0; last = rule .1; some = h .0; within = h .1 })
+numbered n (RefusedFile k) h refused = inl (record { rule = h; none = refl })
+numbered n (RefusedLine k line) h refused = inr (record { rule = line-rules k; some = h .0; within = h .1 })
 
 -- an answer's line is one of a good sheet, or 0
 pub answer-line-small : (f : Lent) (room : ℕ) → answerLine (answerOf f room) ≤ mostLines
@@ -113,7 +130,7 @@ answer-line-small f room =
     go (byFiles f room) (byLines (lineCount (f .sheet)) (lineOutcome f)) refl (files-within f room) (lines-within (lineCount (f .sheet)) (lineOutcome f))
   where
     go : (files lines : Outcome) → byFiles f room ≡ files → Within 0 files → Within (lineCount (f .sheet)) lines
-        → answerLine (orElseLines files lines) ≤ mostLines
+        → answerLine (orNext files lines) ≤ mostLines
     go (RefusedFile k) lines e h g = omega arith
     go (RefusedLine k line) lines e h g = absurd (omega (arith, h .0, h .1))
     go Accepted Accepted e h g = omega arith
@@ -122,47 +139,64 @@ answer-line-small f room =
 
 -- ---- demand 2: a line that gives a row
 
-abbrev RowDemand : (b : List ℕ) (line : Line) (row : TableRow) → Type 0
-RowDemand b line row = LineDemand b line (row .generated) (row .removed) (row .reused) (row .discharged)
+abbrev RowDemand : (from : Sources) (line : Line) (row : TableRow) → Type 0
+RowDemand from line row = LineDemand from line (row .generated) (row .removed) (row .reused) (row .discharged) (row .fugitive)
 
-treatment-demand : (b : List ℕ) (line : Line) (row : Row) (k : Treatment) (given : TableRow) → bookOk b ≡ true → line .reuse ≤ wholeShare
-    → rowOf b (line .key) ≡ Hit row → treatmentOf (techniqueBlock b) row (line .technique) (line .reading) ≡ k
-    → byTreatment row line k ≡ Given given → RowDemand b line given
-treatment-demand b line row (NoTreatment fault) given good reuse hit by h = clash (cc)
-treatment-demand b line row (By e n d) given good reuse hit by h =
-    let a = amountsOf (generatedOf row line) e n d (line .reuse) (inWater line) in
-    let g : a .generated ≡ given .generated = cc in
-    let r : a .removed ≡ given .removed = cc in
-    let u : a .reused ≡ given .reused = cc in
-    let x : a .discharged ≡ given .discharged = cc in
-    rw (← g, ← r, ← u, ← x)
-    (record {
-      row = row;
-      efficiency = e;
-      n = n;
-      d = d;
-      found = hit;
-      treated = by;
-      generated = refl;
-      removed = refl;
-      reused = refl;
-      discharged = refl;
-      sound = line-sound b line row e n d good reuse hit by;
-    })
+module _ (from : Sources) (line : Line) (good : bookOk (from .book) ≡ true) (reuse : line .reuse ≤ wholeShare) where
+  abbrev block : List ℕ
+  block = techniqueBlock (from .book)
 
-row-demand : (b : List ℕ) (line : Line) (found : RowSearch) (given : TableRow) → bookOk b ≡ true → line .reuse ≤ wholeShare
-    → rowOf b (line .key) ≡ found → byRow (techniqueBlock b) line found ≡ Given given → RowDemand b line given
-row-demand b line Miss given good reuse e h = clash (cc)
-row-demand b line (Hit row) given good reuse e h = treatment-demand b line row _ given good reuse e refl h
+  module _ (row : Row) (hit : rowOf (from .book) (line .key) ≡ Hit row) where
+    treatment-demand : (k : Treatment) (F : ℕ) (given : TableRow) → treatmentOf block row (line .technique) (line .reading) ≡ k
+        → dustOf (from .fugitive) line ≡ Escapes F → byTreatment row line F k ≡ Given given → RowDemand from line given
+    treatment-demand (NoTreatment fault) F given by dust h = clash (cc)
+    treatment-demand (By e n d) F given by dust h =
+        let a = amountsOf (generatedOf row line) e n d (line .reuse) (inWater line) in
+        let holds = line-sound (from .book) line row e n d good reuse hit by in
+        let g : a .generated + F ≡ given .generated = cc in
+        let r : a .removed ≡ given .removed = cc in
+        let u : a .reused ≡ given .reused = cc in
+        let x : a .discharged ≡ given .discharged = cc in
+        let y : F ≡ given .fugitive = cc in
+        rw (← g, ← r, ← u, ← x, ← y)
+        (record {
+          row = row;
+          efficiency = e;
+          n = n;
+          d = d;
+          found = hit;
+          treated = by;
+          escapes = dust;
+          ducted = generatedOf row line;
+          meets = refl;
+          generated = refl;
+          removed = refl;
+          reused = refl;
+          discharged = refl;
+          sound = holds;
+          adds = omega (arith, holds .sum);
+        })
 
-account-demand : (b : List ℕ) (line : Line) (given : TableRow) → bookOk b ≡ true → accountOf b line ≡ Given given → RowDemand b line given
+    dust-demand : (dust : Dust) (given : TableRow) → dustOf (from .fugitive) line ≡ dust → byDust block row line dust ≡ Given given
+        → RowDemand from line given
+    dust-demand NoEntry given e h = clash (cc)
+    dust-demand (Escapes F) given e h = treatment-demand _ F given refl e h
+
+  row-demand : (found : RowSearch) (given : TableRow) → rowOf (from .book) (line .key) ≡ found
+      → byRow block (from .fugitive) line found ≡ Given given → RowDemand from line given
+  row-demand Miss given e h = clash (cc)
+  row-demand (Hit row) given e h = dust-demand row e (dustOf (from .fugitive) line) given refl h
+
+account-demand : (from : Sources) (line : Line) (given : TableRow) → bookOk (from .book) ≡ true → accountOf from line ≡ Given given → RowDemand from line given
 unfolding accountOf
-account-demand b line given good h =
+account-demand from line given good h =
     either-way (excessive line)
     (λ p. let r : Refusal of.ActivityTooLarge ≡ Given given = rw p at h in clash (cc))
     (λ p. either-way (ltb wholeShare (line .reuse))
     (λ q. let r : Refusal of.ReuseTooLarge ≡ Given given = rw (p, q) at h in clash (cc))
-    (λ q. row-demand b line (rowOf b (line .key)) given good (ltb-false wholeShare (line .reuse) q) refl (rw (p, q) at h)))
+    (λ q. either-way (misgraded line)
+    (λ g. let r : Refusal of.BadGrade ≡ Given given = rw (p, q, g) at h in clash (cc))
+    (λ g. row-demand from line good (ltb-false wholeShare (line .reuse) q) (rowOf (from .book) (line .key)) given refl (rw (p, q, g) at h))))
 
 -- every line of an accepted sheet gives a row
 both-given : (r : Outcome) (o : LineOutcome) (n : ℕ) → orLine r o n ≡ Accepted → (r ≡ Accepted) × ((row : TableRow) × (o ≡ Given row))
@@ -177,11 +211,6 @@ all-given zero l h i k = absurd (not-suc-le-zero k)
 all-given (suc n) l h i k =
     let g = both-given (byLines n l) (l n) n h in
     ⊎-elim (λ (q : i ≡ n). (g .1 .0, ap l q ∙ g .1 .1)) (λ (m : i < n). all-given n l (g .0) i m) (eq-or-lt-of-le (le-of-suc-le-suc k))
-
-accepted-both : (files lines : Outcome) → orElseLines files lines ≡ Accepted → (files ≡ Accepted) × (lines ≡ Accepted)
-accepted-both Accepted lines h = (refl, h)
-accepted-both (RefusedFile k) lines h = clash (cc)
-accepted-both (RefusedLine k line) lines h = clash (cc)
 
 pub accepted : (f : Lent) (room : ℕ) → answerOf f room ≡ Accepted → (byFiles f room ≡ Accepted) × (byLines (lineCount (f .sheet)) (lineOutcome f) ≡ Accepted)
 unfolding answerOf
@@ -201,9 +230,9 @@ module _ (f : Lent) (exact shown : List ℕ) (r : Outcome) (exact' shown' : List
       cells-are : exact' ≡ cellsAfter Accepted (lineCount (f .sheet)) (lineOutcome f) exact
       cells-are = rw yes at (both .table)
 
-      line-given : (i : ℕ) (row : TableRow) → lineOutcome f i ≡ Given row → RowDemand (f .book) (lineOf (f .sheet) i) row
+      line-given : (i : ℕ) (row : TableRow) → lineOutcome f i ≡ Given row → RowDemand (f .sources) (lineOf (f .sheet) i) row
       unfolding lineOutcome
-      line-given i row g = account-demand (f .book) (lineOf (f .sheet) i) row (is-ready .book) g
+      line-given i row g = account-demand (f .sources) (lineOf (f .sheet) i) row (is-ready .sources .book) g
 
       cell-is : (i j : ℕ) (row : TableRow) → i < lineCount (f .sheet) → j < width → lineOutcome f i ≡ Given row
           → cellAt exact' i j ≡ at (cellsOf row) j
@@ -214,12 +243,13 @@ module _ (f : Lent) (exact shown : List ℕ) (r : Outcome) (exact' shown' : List
           stands ∙ ap (λ (o : LineOutcome). at (cellsOf (rowGiven o)) j) g
 
       line-demand : (i : ℕ) → i < lineCount (f .sheet)
-          → LineDemand (f .book) (lineOf (f .sheet) i) (cellAt exact' i 0) (cellAt exact' i 1) (cellAt exact' i 2) (cellAt exact' i 3)
+          → LineDemand (f .sources) (lineOf (f .sheet) i)
+          (cellAt exact' i 0) (cellAt exact' i 1) (cellAt exact' i 2) (cellAt exact' i 3) (cellAt exact' i 4)
       line-demand i h =
           let given = all-given (lineCount (f .sheet)) (lineOutcome f) (by-both .1) i h in
           let row = given .0 in
           let stands : (j : ℕ) → j < width → cellAt exact' i j ≡ at (cellsOf row) j = λ j k. cell-is i j row h k (given .1) in
-          rw (stands 0 (omega arith), stands 1 (omega arith), stands 2 (omega arith), stands 3 (omega arith)) (line-given i row (given .1))
+          rw (stands 0 (omega arith), stands 1 (omega arith), stands 2 (omega arith), stands 3 (omega arith), stands 4 (omega arith)) (line-given i row (given .1))
 
       totals-are : (j : ℕ) → j < width → cellAt exact' (lineCount (f .sheet)) j ≡ sum exact' j width (lineCount (f .sheet))
       unfolding cellsAfter
@@ -228,9 +258,7 @@ module _ (f : Lent) (exact shown : List ℕ) (r : Outcome) (exact' shown' : List
           let t = tableOf n (lineOutcome f) in
           let past = drop (tableSize n) exact in
           let size = table-size (lineOutcome f) n in
-          let few = lines-few (f .sheet) (is-ready .sheet) in
-          let less : n + 1 - 1 ≡ n = omega arith in
-          let right = rw less at (sums-right (lineOutcome f) n (line-balances f (is-ready .book)) few 1 .columns j h) in
+          let right = columns-right (lineOutcome f) n j h in
           let here = List·getD-append t past 0 (n * width + j) (omega arith) in
           let sums = sum-same (t ++ past) t j j width n
           (λ k l. List·getD-append t past 0 (j + k * width) (omega (arith, mul-le-mul-right width l))) in
@@ -245,15 +273,6 @@ module _ (f : Lent) (exact shown : List ℕ) (r : Outcome) (exact' shown' : List
           let n = lineCount (f .sheet) in
           rw cells-are (drop-at (tableOf n (lineOutcome f)) (drop (tableSize n) exact) (tableSize n) (omega (arith, table-size (lineOutcome f) n)))
 
-      shown-past : drop (tableSize (lineCount (f .sheet))) shown' ≡ drop (tableSize (lineCount (f .sheet))) shown
-      unfolding shownAfter
-      shown-past =
-          let n = lineCount (f .sheet) in
-          let g = tableGrid (unitOfSheet (f .sheet)) n in
-          let size = shown-length (settles f (is-ready .book) (is-ready .sheet)) in
-          let shows = rw yes at (both .shows) in
-          rw shows (drop-at (shownTable g (tableOf n (lineOutcome f))) (drop (tableSize n) shown) (tableSize n) (omega arith))
-
     module _ (no : r ≢ Accepted) where
       both-zero : (o : Outcome) → r ≡ o → (exact' ≡ replicate (length exact) 0) × (shown' ≡ replicate (length shown) 0)
       unfolding cellsAfter shownAfter
@@ -264,16 +283,20 @@ module _ (f : Lent) (exact shown : List ℕ) (r : Outcome) (exact' shown' : List
       is-numbered : OfFile (answerNumber r) (answerLine r) ⊎ OfLine (lineCount (f .sheet)) (answerNumber r) (answerLine r)
       is-numbered = numbered _ r (rw answer (answer-within f (min (length exact) (length shown)))) no
 
-    demand-1 : Demand1 f exact shown r exact' shown'
-    demand-1 =
+    -- what the shown table keeps past it, and that it is allowed, is known where it is made
+    pub declared : (r ≡ Accepted → drop (tableSize (lineCount (f .sheet))) shown' ≡ drop (tableSize (lineCount (f .sheet))) shown)
+        → (r ≡ Accepted → Demand3 f exact' shown') → Declared f exact shown r exact' shown'
+    declared past allowed =
         record {
-          answer = answer;
-          numbered = is-numbered;
-          exactZero = λ no. both-zero no r refl .0;
-          shownZero = λ no. both-zero no r refl .1;
-          exactPast = exact-past;
-          shownPast = shown-past;
+          demand1 = record {
+            answer = answer;
+            numbered = is-numbered;
+            exactZero = λ no. both-zero no r refl .0;
+            shownZero = λ no. both-zero no r refl .1;
+            exactPast = exact-past;
+            shownPast = past;
+          };
+          demand2 = demand-2;
+          demand3 = allowed;
+          tables = both;
         }
-
-    pub declared : (r ≡ Accepted → Demand3 f exact' shown') → Declared f exact shown r exact' shown'
-    declared allowed = record { demand1 = demand-1; demand2 = demand-2; demand3 = allowed; tables = both }

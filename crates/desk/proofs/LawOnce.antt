@@ -11,7 +11,7 @@ use Rattle.answers.specs.Answer.{codeOf}
 use Rattle.answers.specs.declared.bundle.BundleOutcome.{BundleOutcome}
 use Rattle.answers.specs.declared.bundle.BundleOutcome.the-variants.{Taken, BundleMalformed, ResultTooShort}
 use Rattle.bundle.specs.Bundle.{sheetCount, cellsPerSheet}
-use Rattle.desk.specs.Lent.{Lent}
+use Rattle.desk.specs.Lent.{Sources, Lent}
 use Rattle.headers.specs.Sheet.{lineCount}
 use Rattle.desk.specs.Account.{lineOutcome}
 use Rattle.desk.specs.Table.{cellsAfter, ExactTable}
@@ -38,15 +38,15 @@ declared-once f exact shown r q x x' y y' p h =
 same-results : (x y : Results) → x .exact ≡ y .exact → x .shown ≡ y .shown → x .outcomes ≡ y .outcomes → x ≡ y
 same-results x y e s o = rw (e, s, o) refl
 
-module _ (book bundle : List ℕ) (before : Results) where
-  sheet-once : (i : ℕ) (x y : Results) → AsAlone book bundle before x i → AsAlone book bundle before y i
+module _ (from : Sources) (bundle : List ℕ) (before : Results) where
+  sheet-once : (i : ℕ) (x y : Results) → AsAlone from bundle before x i → AsAlone from bundle before y i
       → (runOf bundle i (x .exact) ≡ runOf bundle i (y .exact)) × (runOf bundle i (x .shown) ≡ runOf bundle i (y .shown))
       × (partOf (x .outcomes) i 1 ≡ partOf (y .outcomes) i 1)
   sheet-once i x y p q =
       let same = declared-once _ _ _ _ _ _ _ _ _ (p .declared) (q .declared) in
       (same .1, same .2, p .outcome ∙ ap (λ (o : Outcome). codeOf o ∷ []) (same .0) ∙ sym (q .outcome))
 
-  taken-once : (x y : Results) → SheetBySheet book bundle before x → SheetBySheet book bundle before y → x ≡ y
+  taken-once : (x y : Results) → SheetBySheet from bundle before x → SheetBySheet from bundle before y → x ≡ y
   taken-once x y p q =
       let n = sheetCount bundle in
       let c = cellsPerSheet bundle in
@@ -59,7 +59,7 @@ module _ (book bundle : List ℕ) (before : Results) where
   zeros-once x y p q = same-results x y (p .exact ∙ sym (q .exact)) (p .shown ∙ sym (q .shown)) (p .outcomes ∙ sym (q .outcomes))
 
   module _ (x y : Results) where
-    cells-once : (r : BundleOutcome) → BundleDeclared book bundle before r x → BundleDeclared book bundle before r y → x ≡ y
+    cells-once : (r : BundleOutcome) → BundleDeclared from bundle before r x → BundleDeclared from bundle before r y → x ≡ y
     cells-once Taken p q = taken-once x y (p .taken refl) (q .taken refl)
     cells-once BundleMalformed p q =
         let no : BundleMalformed ≢ Taken = λ e. clash (cc) in
@@ -68,7 +68,7 @@ module _ (book bundle : List ℕ) (before : Results) where
         let no : ResultTooShort ≢ Taken = λ e. clash (cc) in
         zeros-once x y (p .refused no) (q .refused no)
 
-    pub bundle-declared-once : (r q : BundleOutcome) → BundleDeclared book bundle before r x → BundleDeclared book bundle before q y
+    pub bundle-declared-once : (r q : BundleOutcome) → BundleDeclared from bundle before r x → BundleDeclared from bundle before q y
         → (r ≡ q) × (x ≡ y)
     bundle-declared-once r q p h =
         let e : q ≡ r = h .answer ∙ sym (p .answer) in

@@ -12,6 +12,7 @@ use Rattle.headers.specs.Book.{techniqueBlock}
 use Rattle.shares.specs.Share.{hoursOf, goesWith, shareOf, shareBy}
 use Rattle.shares.specs.declared.share.Reading.the-variants.{Hours, Throughout}
 use Rattle.shares.proofs.LawExcess.{outran-as-throughout}
+use Rattle.desk.specs.Lent.{Sources}
 use Rattle.desk.specs.Book.{techniqueEfficiency}
 use Rattle.desk.specs.Row.{rowOf}
 use Rattle.desk.specs.Technique.{techniqueIndex}
@@ -38,18 +39,18 @@ module _ (run production : Float) (more most : ℕ) (ran : hoursOf run ≡ Is mo
   alike : (row : Row) → row .rule ≡ 1 → shareBy (Hours run production) (row .rule) ≡ shareBy Throughout (row .rule)
   alike row by-hours = rw by-hours (outran-as-throughout run production more most ran produced some above)
 
-  pub outran-line : (b : List ℕ) (line : Line) (row : Row) → rowOf b (line .key) ≡ Hit row → row .rule ≡ 1
-      → accountOf b (withReading line (Hours run production)) ≡ accountOf b (withReading line Throughout)
-  outran-line b line row hit by-hours =
-      account-alike b line (Hours run production) Throughout
+  pub outran-line : (from : Sources) (line : Line) (row : Row) → rowOf (from .book) (line .key) ≡ Hit row → row .rule ≡ 1
+      → accountOf from (withReading line (Hours run production)) ≡ accountOf from (withReading line Throughout)
+  outran-line from line row hit by-hours =
+      account-alike from line (Hours run production) Throughout
       (λ found there treated. let same : row ≡ found = cc in rw (← same) (alike row by-hours))
 
   -- k of the exact value that D is held to
-  pub outran-demand : (b : List ℕ) (line : Line) (G R U D : ℕ) (demand : LineDemand b line G R U D) → demand .row .rule ≡ 1
+  pub outran-demand : (from : Sources) (line : Line) (G R U D F : ℕ) (demand : LineDemand from line G R U D F) → demand .row .rule ≡ 1
       → (line .technique ≡ 0 → ⊥) → line .reading ≡ Hours run production → (demand .n ≡ 1) × (demand .d ≡ 1)
   unfolding treatmentOf
-  outran-demand b line G R U D demand by-hours treated reading =
-      let t = techniqueBlock b in
+  outran-demand from line G R U D F demand by-hours treated reading =
+      let t = techniqueBlock (from .book) in
       let row = demand .row in
       let place = techniqueIndex t (row .first) (row .techniques) (line .technique) in
       let as-hours : byTechnique t row (Hours run production) place ≡ By (demand .efficiency) (demand .n) (demand .d) =

@@ -24,12 +24,16 @@ use Rattle.desk.specs.Book.{bookOk, rowStart, keyAt, rowOk, fieldsOk, co
 use Rattle.desk.specs.Row.{rowHas, rowIndex, rowAt, rowFrom, rowOf}
 use Rattle.headers.specs.Sheet.{sheetHeaderOk, lineCount}
 use Rattle.desk.specs.Sheet.{sheetOk, lineOk}
-use Rattle.desk.specs.Line.{readingAt, lineOf}
+use Rattle.desk.specs.Line.{readingAt, gradesAt, lineOf}
 use Rattle.desk.specs.Cells.{width}
 use Rattle.headers.specs.Unit.{unitOf, unitOfSheet}
-use Rattle.desk.specs.Lent.{Lent, lent}
+use Rattle.desk.specs.Lent.{Sources, sources, Lent, lent}
 use Rattle.desk.specs.Account.{treatmentOf, generatedOf, excessive, accountOf, lineOutcome}
-use Rattle.desk.specs.Table.{rows, total, tableOf, byFiles, byLines, answerOf, cellsAfter}
+use Rattle.fugitive.specs.Grades.{isGiven, gradesBad}
+use Rattle.fugitive.specs.Table.{fugitiveHeaderOk}
+use Rattle.desk.specs.Entries.{fugitiveOk}
+use Rattle.desk.specs.Dust.{dustOf}
+use Rattle.desk.specs.Table.{rows, total, tableOf, bySources, byFiles, byLines, answerOf, cellsAfter}
 use Rattle.desk.specs.Declare.{Declared}
 use Rattle.desk.specs.Works.{Results, results, BundleDeclared}
 use Rattle.desk.specs.declared.line.Line.{Line}
@@ -48,6 +52,13 @@ book =
     (40 ∷ 0 ∷ 0 ∷ 0 ∷ 1 ∷ 0 ∷ 0 ∷ 0 ∷ 16 ∷ 0 ∷ 0 ∷ 0 ∷ 40 ∷ 0 ∷ 0 ∷ 0 ∷ 168 ∷ 12 ∷ 0 ∷ 0 ∷ 0 ∷ 0 ∷ 0 ∷ 0 ∷ 0 ∷ 0 ∷ 2 ∷ 3 ∷ 1 ∷ 1 ∷ 0 ∷
     0 ∷ 1 ∷ 0 ∷ 0 ∷ 0 ∷ 0 ∷ 0 ∷ 0 ∷ 0 ∷ [])
 
+-- a fugitive table without entries
+abbrev noEntries : List ℕ
+noEntries = 12 ∷ 0 ∷ 0 ∷ 0 ∷ 0 ∷ 0 ∷ 0 ∷ 0 ∷ 12 ∷ 0 ∷ 0 ∷ 0 ∷ []
+
+abbrev plain : Sources
+plain = sources book noEntries
+
 -- a line of direct discharge with so many kilograms of product, given by their two low bytes
 abbrev line : (low high : ℕ) → List ℕ
 line low high =
@@ -58,29 +69,29 @@ abbrev sheetOf : (lines : List ℕ) → List ℕ
 sheetOf lines = (144 ∷ 0 ∷ 0 ∷ 0 ∷ 2 ∷ 0 ∷ 2 ∷ 3 ∷ 16 ∷ 0 ∷ 0 ∷ 0 ∷ 1 ∷ 0 ∷ 0 ∷ 0 ∷ []) ++ lines
 
 abbrev one-and-two : Lent
-one-and-two = lent book (sheetOf (line 232 3 ++ line 208 7))
+one-and-two = lent plain (sheetOf (line 232 3 ++ line 208 7))
 
 abbrev three-twice : Lent
-three-twice = lent book (sheetOf (line 184 11 ++ line 184 11))
+three-twice = lent plain (sheetOf (line 184 11 ++ line 184 11))
 
--- both results are lent with twelve cells, each of which holds 7
+-- both results are lent with fifteen cells, each of which holds 7
 abbrev cells : List ℕ
-cells = replicate 12 7
+cells = replicate 15 7
 
 -- ---- what the desk answers, and the exact cells that it leaves
 
 abbrev oneAndTwo : List ℕ
-oneAndTwo = 100000 ∷ 0 ∷ 0 ∷ 100000 ∷ 200000 ∷ 0 ∷ 0 ∷ 200000 ∷ 300000 ∷ 0 ∷ 0 ∷ 300000 ∷ []
+oneAndTwo = 100000 ∷ 0 ∷ 0 ∷ 100000 ∷ 0 ∷ 200000 ∷ 0 ∷ 0 ∷ 200000 ∷ 0 ∷ 300000 ∷ 0 ∷ 0 ∷ 300000 ∷ 0 ∷ []
 
 abbrev threeTwice : List ℕ
-threeTwice = 300000 ∷ 0 ∷ 0 ∷ 300000 ∷ 300000 ∷ 0 ∷ 0 ∷ 300000 ∷ 600000 ∷ 0 ∷ 0 ∷ 600000 ∷ []
+threeTwice = 300000 ∷ 0 ∷ 0 ∷ 300000 ∷ 0 ∷ 300000 ∷ 0 ∷ 0 ∷ 300000 ∷ 0 ∷ 600000 ∷ 0 ∷ 0 ∷ 600000 ∷ 0 ∷ []
 
-worked : (answerOf one-and-two 12 ≡ Accepted) × (answerOf three-twice 12 ≡ Accepted)
+worked : (answerOf one-and-two 15 ≡ Accepted) × (answerOf three-twice 15 ≡ Accepted)
     × (cellsAfter Accepted (lineCount (one-and-two .sheet)) (lineOutcome one-and-two) cells ≡ oneAndTwo)
     × (cellsAfter Accepted (lineCount (three-twice .sheet)) (lineOutcome three-twice) cells ≡ threeTwice)
     × (unitOfSheet (one-and-two .sheet) ≡ 100000)
-unfolding answerOf byFiles bookOk bookHeaderOk fileOk every u32At u16At all rowOk fieldsOk coefficientAt techniquesOk rises sheetOk
-    sheetHeaderOk lineOk u64At byLines lineOutcome accountOf lineOf rowOf rowIndex first rowHas keySame keyFrom rowAt treatmentOf
+unfolding answerOf byFiles bySources fugitiveOk fugitiveHeaderOk bookOk bookHeaderOk fileOk every u32At u16At all rowOk fieldsOk coefficientAt techniquesOk rises sheetOk
+    sheetHeaderOk lineOk u64At byLines lineOutcome accountOf lineOf gradesAt gradesBad isGiven dustOf rowOf rowIndex first rowHas keySame keyFrom rowAt treatmentOf
     generatedOf readingAt removedOf reusedOf dischargedOf cellsAfter tableOf rows total unitOf
 worked = (refl, refl, refl, refl, refl)
 
@@ -109,7 +120,7 @@ module _ (r : Outcome) (x y : List ℕ) (p : Declared one-and-two cells cells r 
 
   -- one that accounts for line 1 and copies it down
   pub copies-down : ((j : ℕ) → j < width → at x (width + j) ≡ at x j) → ⊥
-  copies-down down = omega (arith, down 0 (omega arith), cell 0, cell 4)
+  copies-down down = omega (arith, down 0 (omega arith), cell 0, cell 5)
 
   -- one that shows zeros
   pub shows-zeros : ((j : ℕ) → at y j ≡ 0) → ⊥
@@ -133,9 +144,9 @@ unfolding rowOf rowIndex first rowHas keySame every keyFrom u16At u32At
 one-row-early r early meant = let e : Miss ≡ Hit (rowAt book 0) = sym early ∙ meant in clash (cc)
 
 -- one that looks at the reuse before the masses: where these are too large the refusal is theirs, whatever the reuse
-pub reuse-first : (b : List ℕ) (line : Line) → excessive line ≡ true → accountOf b line ≡ Refusal ReuseTooLarge → ⊥
+pub reuse-first : (from : Sources) (line : Line) → excessive line ≡ true → accountOf from line ≡ Refusal ReuseTooLarge → ⊥
 unfolding accountOf
-reuse-first b line large h = let e : Refusal ActivityTooLarge ≡ Refusal ReuseTooLarge = rw large at h in clash (cc)
+reuse-first from line large h = let e : Refusal ActivityTooLarge ≡ Refusal ReuseTooLarge = rw large at h in clash (cc)
 
 -- ---- a whole works
 
@@ -143,23 +154,23 @@ reuse-first b line large h = let e : Refusal ActivityTooLarge ≡ Refusal ReuseT
 abbrev noLines : List ℕ
 noLines = 16 ∷ 0 ∷ 0 ∷ 0 ∷ 0 ∷ 0 ∷ 2 ∷ 3 ∷ 16 ∷ 0 ∷ 0 ∷ 0 ∷ 1 ∷ 0 ∷ 0 ∷ 0 ∷ []
 
--- two sheets with four cells each: one of no bytes, which is refused with 2, and one without lines, which is accepted
+-- two sheets with five cells each: one of no bytes, which is refused with 2, and one without lines, which is accepted
 abbrev twoSheets : List ℕ
 twoSheets =
-    (44 ∷ 0 ∷ 0 ∷ 0 ∷ 2 ∷ 0 ∷ 0 ∷ 0 ∷ 4 ∷ 0 ∷ 0 ∷ 0 ∷ 28 ∷ 0 ∷ 0 ∷ 0 ∷ 0 ∷ 0 ∷ 0 ∷ 0 ∷ 28 ∷ 0 ∷ 0 ∷ 0 ∷ 16 ∷ 0 ∷ 0 ∷ 0 ∷ []) ++ noLines
+    (44 ∷ 0 ∷ 0 ∷ 0 ∷ 2 ∷ 0 ∷ 0 ∷ 0 ∷ 5 ∷ 0 ∷ 0 ∷ 0 ∷ 28 ∷ 0 ∷ 0 ∷ 0 ∷ 0 ∷ 0 ∷ 0 ∷ 0 ∷ 28 ∷ 0 ∷ 0 ∷ 0 ∷ 16 ∷ 0 ∷ 0 ∷ 0 ∷ []) ++ noLines
 
 abbrev lentTwo : Results
-lentTwo = results (replicate 8 7) (replicate 8 7) (7 ∷ 7 ∷ [])
+lentTwo = results (replicate 10 7) (replicate 10 7) (7 ∷ 7 ∷ [])
 
-worked-two : (bundleOutcome twoSheets 8 8 2 ≡ Taken) × (codeOf (answerOf (lent book (bundled twoSheets 0)) 4) ≡ 131072)
-    × (codeOf (answerOf (lent book (bundled twoSheets 1)) 4) ≡ 0)
+worked-two : (bundleOutcome twoSheets 10 10 2 ≡ Taken) × (codeOf (answerOf (lent plain (bundled twoSheets 0)) 5) ≡ 131072)
+    × (codeOf (answerOf (lent plain (bundled twoSheets 1)) 5) ≡ 0)
 unfolding bundleOutcome bundleOk bundleHeaderOk entryOk afterTheOneBefore roomy bundled
-    answerOf byFiles bookOk bookHeaderOk fileOk every u32At u16At all rowOk fieldsOk coefficientAt techniquesOk rises sheetOk sheetHeaderOk
+    answerOf byFiles bySources fugitiveOk fugitiveHeaderOk bookOk bookHeaderOk fileOk every u32At u16At all rowOk fieldsOk coefficientAt techniquesOk rises sheetOk sheetHeaderOk
     lineOk u64At byLines
 worked-two = (refl, refl, refl)
 
 -- one that gives one sheet's outcome to all, whatever it leaves in the runs
-pub one-outcome : (r : BundleOutcome) (after : Results) → BundleDeclared book twoSheets lentTwo r after
+pub one-outcome : (r : BundleOutcome) (after : Results) → BundleDeclared plain twoSheets lentTwo r after
     → partOf (after .outcomes) 0 1 ≡ partOf (after .outcomes) 1 1 → ⊥
 unfolding u16At u32At
 one-outcome r after p same =

@@ -1,7 +1,7 @@
 -- What one more line does to the table, its sums and the answer; and what is left once no file is refused.
 use Prim.Native.Nat.{ℕ, zero, suc, _+_, _*_, _≤_, _<_}
 use mathlib.Core.Path.{_≡_, refl}
-use mathlib.Core.Bool.{Bool, true}
+use mathlib.Core.Bool.{true}
 use mathlib.Core.List.{List, [], _∷_, _++_, append-assoc}
 use mathlib.Core.Logic.{⊎-elim, _≢_}
 use denote.Enum.Declared.{tagOf}
@@ -15,15 +15,16 @@ use borrow.Author.Tests.{leb-true}
 use Rattle.search.proofs.LawTest.{clash, either-way, and-left, and-right, every-at}
 use Rattle.little.proofs.LawPart.{put-part}
 use Rattle.settle.specs.Shown.{sum}
-use Rattle.desk.specs.Lent.{Lent}
+use Rattle.desk.specs.Lent.{Sources, Lent}
 use Rattle.headers.specs.House.{fileOk}
 use Rattle.desk.specs.Book.{bookOk}
+use Rattle.desk.specs.Entries.{fugitiveOk}
 use Rattle.headers.specs.Sheet.{sheetHeader, sheetHeaderSize, sheetFits, sheetHeaderOk, lineCount, mostLines}
 use Rattle.desk.specs.Sheet.{linesOk, sheetOk}
 use Rattle.desk.specs.Cells.{width, tableSize, cellsOf, plus}
 use Rattle.desk.specs.Tally.{add}
-use Rattle.desk.specs.Table.{rowGiven, rows, total, tableOf, byFiles, byLines, orElseLines, cellsAfter}
-use Rattle.desk.specs.Inner.{Fitting, filesTold, Ready, Fillable, withRow}
+use Rattle.desk.specs.Table.{rowGiven, rows, total, tableOf, bySheet, bySources, orNext, byFiles, byLines, cellsAfter}
+use Rattle.desk.specs.Inner.{Fitting, filesTold, Right, Ready, Fillable, withRow}
 use Rattle.answers.specs.declared.answer.LineFault.{LineFault}
 use Rattle.answers.specs.declared.answer.Outcome.{Outcome}
 use Rattle.answers.specs.declared.answer.Outcome.the-variants.{Accepted, RefusedFile, RefusedLine}
@@ -45,20 +46,27 @@ refusal (RefusedLine k line) h e = clash (cc)
 pub line-refused : {k : LineFault} {line : ℕ} → RefusedLine k line ≢ Accepted
 line-refused e = clash (cc)
 
--- where the files are refused no line is looked at
-pub refused-first : (files lines : Outcome) → files ≢ Accepted → files ≡ orElseLines files lines
-refused-first Accepted lines refused = absurd (refused refl)
-refused-first (RefusedFile k) lines refused = refl
-refused-first (RefusedLine k line) lines refused = refl
+-- what is refused first leaves nothing to the next
+pub refused-first : (first next : Outcome) → first ≢ Accepted → first ≡ orNext first next
+refused-first Accepted next refused = absurd (refused refl)
+refused-first (RefusedFile k) next refused = refl
+refused-first (RefusedLine k line) next refused = refl
 
--- four stores fill a part of four cells
-pub four-sets : (l : List ℕ) (a b c d : ℕ) → length l ≡ 4 → set (set (set (set l 0 a) 1 b) 2 c) 3 d ≡ (a ∷ b ∷ c ∷ d ∷ [])
-four-sets [] a b c d h = absurd (omega arith)
-four-sets (x ∷ []) a b c d h = absurd (omega arith)
-four-sets (x ∷ y ∷ []) a b c d h = absurd (omega arith)
-four-sets (x ∷ y ∷ z ∷ []) a b c d h = absurd (omega arith)
-four-sets (x ∷ y ∷ z ∷ w ∷ []) a b c d h = refl
-four-sets (x ∷ y ∷ z ∷ w ∷ v ∷ l) a b c d h = absurd (omega arith)
+-- nothing is refused where neither of two answers refuses
+pub accepted-both : (first next : Outcome) → orNext first next ≡ Accepted → (first ≡ Accepted) × (next ≡ Accepted)
+accepted-both Accepted next h = (refl, h)
+accepted-both (RefusedFile k) next h = clash (cc)
+accepted-both (RefusedLine k line) next h = clash (cc)
+
+-- five stores fill a part of five cells
+pub five-sets : (l : List ℕ) (a b c d e : ℕ) → length l ≡ 5 → set (set (set (set (set l 0 a) 1 b) 2 c) 3 d) 4 e ≡ (a ∷ b ∷ c ∷ d ∷ e ∷ [])
+five-sets [] a b c d e h = absurd (omega arith)
+five-sets (x ∷ []) a b c d e h = absurd (omega arith)
+five-sets (x ∷ y ∷ []) a b c d e h = absurd (omega arith)
+five-sets (x ∷ y ∷ z ∷ []) a b c d e h = absurd (omega arith)
+five-sets (x ∷ y ∷ z ∷ w ∷ []) a b c d e h = absurd (omega arith)
+five-sets (x ∷ y ∷ z ∷ w ∷ v ∷ []) a b c d e h = refl
+five-sets (x ∷ y ∷ z ∷ w ∷ v ∷ u ∷ l) a b c d e h = absurd (omega arith)
 
 -- ---- what one more line does to the table, its sums and the answer
 
@@ -126,7 +134,7 @@ module _ (l : ℕ → LineOutcome) where
         let e : lineMost * i + lineMost ≡ lineMost * suc i = omega arith in
         rw e at more
 
-    -- one more line's row fits the tally: 128 × 10^17 is below 2^64
+    -- one more line's row fits the tally: 128 × (10^17 + 3 × 65,535 × 100 × 10^9) is below 2^64
     pub tally-fits : (i : ℕ) {t : Tally} {row : TableRow} → i < mostLines → t ≡ total i l → l i ≡ Given row → Fitting t row
     tally-fits i {t} {row} h p e =
         let x : Balanced width (lineMost * i) (cellsOf (t .sums)) = rw p (total-balanced i) in
@@ -135,10 +143,17 @@ module _ (l : ℕ → LineOutcome) where
 
 -- ---- what is not refused before the lines
 
--- where it was known whether the book is right
-pub files-told : (f : Lent) (room : ℕ) {good : Bool} {r : Outcome} → good ≡ bookOk (f .book) → r ≡ filesTold good (f .sheet) room → r ≡ byFiles f room
+-- where it was known what is wrong with the sources
+pub files-told : (f : Lent) (room : ℕ) {told r : Outcome} → told ≡ bySources (f .sources) → r ≡ filesTold told (f .sheet) room → r ≡ byFiles f room
 unfolding byFiles
 files-told f room e h = rw e at h
+
+pub sources-right : (from : Sources) → bySources from ≡ Accepted → Right from
+unfolding bySources
+sources-right from h =
+    either-way (bookOk (from .book))
+    (λ p. either-way (fugitiveOk (from .fugitive)) (λ q. record { book = p; fugitive = q }) (λ q. clash (cc)))
+    (λ p. clash (cc))
 
 pub lines-few : (s : List ℕ) → sheetOk s ≡ true → lineCount s ≤ mostLines
 unfolding sheetOk sheetHeaderOk
@@ -149,24 +164,24 @@ lines-few s h =
 pub ready : (f : Lent) (room : ℕ) → byFiles f room ≡ Accepted → Ready f room
 unfolding byFiles
 ready f room h =
-    either-way (bookOk (f .book))
-    (λ p. either-way (sheetOk (f .sheet))
+    let both = accepted-both (bySources (f .sources)) (bySheet (f .sheet) room) h in
+    let rest = both .1 in
+    either-way (sheetOk (f .sheet))
     (λ q. either-way (leb (tableSize (lineCount (f .sheet))) room)
-    (λ r. record { book = p; sheet = q; fits = leb-true (tableSize (lineCount (f .sheet))) room r })
+    (λ r. record { sources = sources-right (f .sources) (both .0); sheet = q; fits = leb-true (tableSize (lineCount (f .sheet))) room r })
     (λ r. clash (cc)))
-    (λ q. clash (cc)))
-    (λ p. clash (cc))
+    (λ q. clash (cc))
 
 -- what is not refused before the lines can be filled in
-pub fillable : (f : Lent) (n : ℕ) (cells : List ℕ) → bookOk (f .book) ≡ true → sheetOk (f .sheet) ≡ true → n ≡ lineCount (f .sheet)
+pub fillable : (f : Lent) (n : ℕ) (cells : List ℕ) → Right (f .sources) → sheetOk (f .sheet) ≡ true → n ≡ lineCount (f .sheet)
     → tableSize n ≤ length cells → Fillable f n cells
 unfolding sheetOk
-fillable f n cells good right e room =
+fillable f n cells sources right e room =
     let few = lines-few (f .sheet) right in
     let header = and-left (sheetHeaderOk (f .sheet)) (linesOk (f .sheet)) right in
     record {
       few = omega arith;
       fits = room;
-      book = good;
+      sources = sources;
       there = λ i l. record { small = omega arith; lies = line-in (f .sheet) header i (omega arith) };
     }

@@ -22,7 +22,7 @@ use Rattle.answers.specs.declared.bundle.BundleOutcome.{BundleOutcome}
 use Rattle.answers.specs.declared.bundle.BundleOutcome.the-variants.{Taken, BundleMalformed, ResultTooShort}
 use Rattle.answers.proofs.bundle.BundleOutcome.{the-type}
 use Rattle.bundle.specs.Bundle.{sheetCount, cellsPerSheet, sheetOf}
-use Rattle.desk.specs.Lent.{lent}
+use Rattle.desk.specs.Lent.{Sources, lent}
 use Rattle.desk.specs.Demands.{Demand1, Demand2, Demand3}
 use Rattle.desk.specs.Declare.{Declared}
 use Rattle.desk.proofs.LawOnce.{declared-once}
@@ -49,20 +49,20 @@ pub run-size : (from count : ℕ) (cells : List ℕ) → from + count ≤ length
 run-size from count cells h = length-take-le count (drop from cells) (omega (arith, length-drop from cells))
 
 -- what a sheet makes of its runs, once these are back in the results
-pub sheet-done : (book bundle : List ℕ) (i : ℕ) (exact shown : List ℕ) {s : List ℕ} {r : Outcome} {from size : ℕ} {x y : List ℕ}
-    → s ≡ sheetOf bundle i → from ≡ i * cellsPerSheet bundle → size ≡ cellsPerSheet bundle
+pub sheet-done : (from : Sources) (bundle : List ℕ) (i : ℕ) (exact shown : List ℕ) {s : List ℕ} {r : Outcome} {start size : ℕ} {x y : List ℕ}
+    → s ≡ sheetOf bundle i → start ≡ i * cellsPerSheet bundle → size ≡ cellsPerSheet bundle
     → i * cellsPerSheet bundle + cellsPerSheet bundle ≤ length exact → i * cellsPerSheet bundle + cellsPerSheet bundle ≤ length shown
-    → Declared (lent book s) (partOf exact from size) (partOf shown from size) r x y
-    → length x ≡ length (partOf exact from size) → length y ≡ length (partOf shown from size)
-    → SheetDone book bundle i exact shown r (putMid from size exact x) (putMid from size shown y)
-sheet-done book bundle i exact shown {s} {r} {from} {size} {x} {y} s-is from-is size-is exact-run shown-run declared x-size y-size =
+    → Declared (lent from s) (partOf exact start size) (partOf shown start size) r x y
+    → length x ≡ length (partOf exact start size) → length y ≡ length (partOf shown start size)
+    → SheetDone from bundle i exact shown r (putMid start size exact x) (putMid start size shown y)
+sheet-done from bundle i exact shown {s} {r} {start} {size} {x} {y} s-is start-is size-is exact-run shown-run declared x-size y-size =
     let c = cellsPerSheet bundle in
-    let x-cells : length x ≡ c = rw (from-is, size-is) at x-size ∙ run-size (i * c) c exact exact-run in
-    let y-cells : length y ≡ c = rw (from-is, size-is) at y-size ∙ run-size (i * c) c shown shown-run in
+    let x-cells : length x ≡ c = rw (start-is, size-is) at x-size ∙ run-size (i * c) c exact exact-run in
+    let y-cells : length y ≡ c = rw (start-is, size-is) at y-size ∙ run-size (i * c) c shown shown-run in
     let in-exact = put-read (i * c) c exact x (omega arith) x-cells in
     let in-shown = put-read (i * c) c shown y (omega arith) y-cells in
-    let alone = rw (s-is, from-is, size-is) at declared in
-    rw (from-is, size-is)
+    let alone = rw (s-is, start-is, size-is) at declared in
+    rw (start-is, size-is)
     (record {
       declared = rw (in-exact, in-shown) alone;
       exactKept = around-put (i * c) c exact x exact-run x-cells;
@@ -90,12 +90,12 @@ past-more : (from count : ℕ) {cells cells' : List ℕ} (first : List ℕ) → 
 past-more from count {cells} {cells'} first kept same =
     kept .past ∙ sym (drop-drop count from cells) ∙ ap (drop count) same ∙ drop-drop count from first
 
-module _ (book bundle : List ℕ) (before : Results) where
-  pub first-none : FirstSheets 0 book bundle before before
+module _ (from : Sources) (bundle : List ℕ) (before : Results) where
+  pub first-none : FirstSheets 0 from bundle before before
   first-none = record { sheets = λ i h. absurd (omega arith); exactPast = refl; shownPast = refl; outcomesPast = refl }
 
   module _ (n : ℕ) {exact shown outcomes exact' shown' : List ℕ} {r : Outcome} {code : ℕ}
-      (so-far : FirstSheets n book bundle before (results exact shown outcomes)) (done : SheetDone book bundle n exact shown r exact' shown')
+      (so-far : FirstSheets n from bundle before (results exact shown outcomes)) (done : SheetDone from bundle n exact shown r exact' shown')
       (told : code ≡ codeOf r) (room : n < length outcomes)
       (exact-run : n * cellsPerSheet bundle + cellsPerSheet bundle ≤ length exact)
       (shown-run : n * cellsPerSheet bundle + cellsPerSheet bundle ≤ length shown)
@@ -103,7 +103,7 @@ module _ (book bundle : List ℕ) (before : Results) where
     after : Results
     after = results exact' shown' (set outcomes n code)
 
-    this-sheet : AsAlone book bundle before after n
+    this-sheet : AsAlone from bundle before after n
     unfolding after
     this-sheet =
         let c = cellsPerSheet bundle in
@@ -113,7 +113,7 @@ module _ (book bundle : List ℕ) (before : Results) where
           outcome = set-read n outcomes code room ∙ ap (λ (v : ℕ). v ∷ []) told;
         }
 
-    sheet-before : (i : ℕ) → i < n → AsAlone book bundle before after i
+    sheet-before : (i : ℕ) → i < n → AsAlone from bundle before after i
     unfolding after
     sheet-before i h =
         let c = cellsPerSheet bundle in
@@ -127,7 +127,7 @@ module _ (book bundle : List ℕ) (before : Results) where
           outcome = part-before i 1 (around-set n outcomes code) (omega arith) (length-set outcomes n code) (omega arith) ∙ alone .outcome;
         }
 
-    pub first-more : FirstSheets (n + 1) book bundle before (results exact' shown' (set outcomes n code))
+    pub first-more : FirstSheets (n + 1) from bundle before (results exact' shown' (set outcomes n code))
     unfolding after
     first-more =
         let c = cellsPerSheet bundle in
@@ -141,34 +141,34 @@ module _ (book bundle : List ℕ) (before : Results) where
 
 -- ---- demands 1 to 3 read per sheet
 
-module _ (book bundle : List ℕ) (before : Results) (r : BundleOutcome) (after : Results) (p : BundleDeclared book bundle before r after)
+module _ (from : Sources) (bundle : List ℕ) (before : Results) (r : BundleOutcome) (after : Results) (p : BundleDeclared from bundle before r after)
     (taken : r ≡ Taken) (i : ℕ) (h : i < sheetCount bundle) where
-  pub alone : AsAlone book bundle before after i
+  pub alone : AsAlone from bundle before after i
   alone = p .taken taken .sheets i h
 
-  pub sheet-demand-1 : Demand1 (lent book (sheetOf bundle i)) (runOf bundle i (before .exact)) (runOf bundle i (before .shown))
+  pub sheet-demand-1 : Demand1 (lent from (sheetOf bundle i)) (runOf bundle i (before .exact)) (runOf bundle i (before .shown))
       (alone .answer) (runOf bundle i (after .exact)) (runOf bundle i (after .shown))
   sheet-demand-1 = alone .declared .demand1
 
-  pub sheet-demand-2 : alone .answer ≡ Accepted → Demand2 (lent book (sheetOf bundle i)) (runOf bundle i (after .exact))
+  pub sheet-demand-2 : alone .answer ≡ Accepted → Demand2 (lent from (sheetOf bundle i)) (runOf bundle i (after .exact))
   sheet-demand-2 = alone .declared .demand2
 
   pub sheet-demand-3 : alone .answer ≡ Accepted
-      → Demand3 (lent book (sheetOf bundle i)) (runOf bundle i (after .exact)) (runOf bundle i (after .shown))
+      → Demand3 (lent from (sheetOf bundle i)) (runOf bundle i (after .exact)) (runOf bundle i (after .shown))
   sheet-demand-3 = alone .declared .demand3
 
   -- what the desk answers and leaves for the sheet alone, with its runs lent, is what the bundle has for it
   pub sheet-as-alone : (q : Outcome) (x y : List ℕ)
-      → Declared (lent book (sheetOf bundle i)) (runOf bundle i (before .exact)) (runOf bundle i (before .shown)) q x y
+      → Declared (lent from (sheetOf bundle i)) (runOf bundle i (before .exact)) (runOf bundle i (before .shown)) q x y
       → (partOf (after .outcomes) i 1 ≡ codeOf q ∷ []) × (runOf bundle i (after .exact) ≡ x) × (runOf bundle i (after .shown) ≡ y)
   sheet-as-alone q x y d =
       let same = declared-once _ _ _ _ _ _ _ _ _ (alone .declared) d in
       (alone .outcome ∙ ap (λ (o : Outcome). codeOf o ∷ []) (same .0), same .1, same .2)
 
 -- the outcome of a sheet as a cell
-pub outcome-cell : (book bundle : List ℕ) (before after : Results) (i : ℕ) (alone : AsAlone book bundle before after i)
+pub outcome-cell : (from : Sources) (bundle : List ℕ) (before after : Results) (i : ℕ) (alone : AsAlone from bundle before after i)
     → at (after .outcomes) i ≡ codeOf (alone .answer)
-outcome-cell book bundle before after i alone =
+outcome-cell from bundle before after i alone =
     let cells = after .outcomes in
     let place : i + 0 ≡ i = omega arith in
     let there = getD-take 1 (drop i cells) 0 0 (omega arith) ∙ getD-drop i cells 0 0 in

@@ -1,4 +1,4 @@
--- "From a line to its amounts": what is answered for one line, with what may be wrong in the paper's order, 4 to 11.
+-- "From a line to its amounts": what is answered for one line, with what may be wrong in its order: 4, 5, 15, 6, 14, 7 to 11.
 use Prim.Native.Nat.{ℕ, _+_, _*_}
 use mathlib.Core.Bool.{Bool, _||_, cond}
 use mathlib.Core.List.{List}
@@ -12,10 +12,14 @@ use Rattle.desk.specs.Row.{rowOf}
 use Rattle.desk.specs.Technique.{techniqueIndex}
 use Rattle.shares.specs.Share.{shareBy}
 use Rattle.desk.specs.Line.{mostKilograms, lineOf}
-use Rattle.desk.specs.Lent.{Lent}
+use Rattle.fugitive.specs.Grades.{gradesBad}
+use Rattle.desk.specs.Dust.{dustOf}
+use Rattle.desk.specs.Lent.{Sources, Lent}
 use Rattle.desk.specs.Cells.{rowFrom}
-use Rattle.answers.specs.declared.answer.LineFault.the-variants.{ActivityTooLarge, ReuseTooLarge, NoRow, NoTechnique}
+use Rattle.answers.specs.declared.answer.LineFault.the-variants.{ActivityTooLarge, ReuseTooLarge, BadGrade, NoRow, NoFugitiveEntry, NoTechnique}
 use Rattle.desk.specs.declared.line.Line.{Line}
+use Rattle.desk.specs.declared.dust.Dust.{Dust}
+use Rattle.desk.specs.declared.dust.Dust.the-variants.{Escapes, NoEntry}
 use Rattle.desk.specs.declared.row.Row.{Row}
 use Rattle.desk.specs.declared.row.RowSearch.{RowSearch}
 use Rattle.desk.specs.declared.row.RowSearch.the-variants.{Hit, Miss}
@@ -42,7 +46,7 @@ unfoldable pub treatmentOf : (t : List ℕ) (row : Row) (technique : ℕ) (readi
 treatmentOf t row technique reading =
     cond (eqb technique 0) (By 0 0 1) (byTechnique t row reading (techniqueIndex t (row .first) (row .techniques) technique))
 
--- G = coefficient × activity on the row's basis, 1 product or 2 material
+-- G without F = coefficient × activity on the row's basis, 1 product or 2 material
 unfoldable pub generatedOf : Row → Line → ℕ
 generatedOf row line = row .coefficient * cond (eqb (row .basis) 1) (line .product) (line .material)
 
@@ -50,24 +54,34 @@ generatedOf row line = row .coefficient * cond (eqb (row .basis) 1) (line .produ
 abbrev pub inWater : Line → Bool
 inWater line = eqb (line .key .medium) 1
 
-abbrev pub byTreatment : (row : Row) (line : Line) (treatment : Treatment) → LineOutcome
-byTreatment row line (NoTreatment fault) = Refusal fault
-byTreatment row line (By e n d) = Given (rowFrom (amountsOf (generatedOf row line) e n d (line .reuse) (inWater line)))
+-- R, U and D are worked from G without F, so that no treatment touches F
+abbrev pub byTreatment : (row : Row) (line : Line) (F : ℕ) (treatment : Treatment) → LineOutcome
+byTreatment row line F (NoTreatment fault) = Refusal fault
+byTreatment row line F (By e n d) = Given (rowFrom (amountsOf (generatedOf row line) e n d (line .reuse) (inWater line)) F)
 
-abbrev pub byRow : (t : List ℕ) (line : Line) (row : RowSearch) → LineOutcome
-byRow t line Miss = Refusal NoRow
-byRow t line (Hit row) = byTreatment row line (treatmentOf t row (line .technique) (line .reading))
+abbrev pub byDust : (t : List ℕ) (row : Row) (line : Line) (dust : Dust) → LineOutcome
+byDust t row line NoEntry = Refusal NoFugitiveEntry
+byDust t row line (Escapes F) = byTreatment row line F (treatmentOf t row (line .technique) (line .reading))
+
+abbrev pub byRow : (t f : List ℕ) (line : Line) (row : RowSearch) → LineOutcome
+byRow t f line Miss = Refusal NoRow
+byRow t f line (Hit row) = byDust t row line (dustOf f line)
 
 -- product or material above 10^9 kg
 abbrev pub excessive : Line → Bool
 excessive line = ltb mostKilograms (line .product) || ltb mostKilograms (line .material)
 
-unfoldable pub accountOf : (b : List ℕ) (line : Line) → LineOutcome
-accountOf b line =
+-- a grade that the sheet does not take
+abbrev pub misgraded : Line → Bool
+misgraded line = gradesBad (line .grades) (line .key .medium) (line .key .pollutant)
+
+unfoldable pub accountOf : (from : Sources) (line : Line) → LineOutcome
+accountOf from line =
     cond (excessive line) (Refusal ActivityTooLarge)
     (cond (ltb wholeShare (line .reuse)) (Refusal ReuseTooLarge)
-    (byRow (techniqueBlock b) line (rowOf b (line .key))))
+    (cond (misgraded line) (Refusal BadGrade)
+    (byRow (techniqueBlock (from .book)) (from .fugitive) line (rowOf (from .book) (line .key)))))
 
--- line i of the sheet under the book, counted from 0
+-- line i of the sheet by its sources, counted from 0
 unfoldable pub lineOutcome : (f : Lent) (i : ℕ) → LineOutcome
-lineOutcome f i = accountOf (f .book) (lineOf (f .sheet) i)
+lineOutcome f i = accountOf (f .sources) (lineOf (f .sheet) i)

@@ -27,7 +27,7 @@ pub record BothAfter (f : Lent) (exact shown : List ℕ) (r : Outcome) (exact' s
   pub table : exact' ≡ cellsAfter r (lineCount (f .sheet)) (lineOutcome f) exact
   pub shows : shown' ≡ shownAfter r f shown
 
--- the whole promise for a book, a sheet and the two lent results
+-- the whole promise for the sources, a sheet and the two lent results
 pub record Declared (f : Lent) (exact shown : List ℕ) (r : Outcome) (exact' shown' : List ℕ) : Type 0 where
   pub demand1 : Demand1 f exact shown r exact' shown'
   pub demand2 : r ≡ Accepted → Demand2 f exact'

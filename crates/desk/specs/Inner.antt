@@ -1,12 +1,12 @@
 -- What private functions ask and answer, beside what a promise says. Nothing here is needed to read a promise.
 use Prim.Native.Nat.{ℕ, _+_, _*_, _≤_, _<_}
 use mathlib.Core.Path.{_≡_}
-use mathlib.Core.Bool.{Bool, true, cond}
+use mathlib.Core.Bool.{Bool, true, false}
 use mathlib.Core.List.{List, [], _∷_, _++_}
 use lib.Dec.{leb, ltb}
 use lib.ListN.{length, take, drop}
 use Rattle.amounts.specs.Line.{wholeShare}
-use Rattle.little.specs.Read.{u16Range}
+use Rattle.little.specs.Read.{u16Range, u16At}
 use Rattle.search.specs.First.{first}
 use Rattle.search.specs.InnerOrder.{listOrder}
 use Rattle.search.specs.Test.{every}
@@ -23,21 +23,25 @@ use Rattle.desk.specs.Row.{rowHas}
 use Rattle.headers.specs.Sheet.{lineCount, lineSize, mostLines}
 use Rattle.desk.specs.Sheet.{sheetOk, lineStart}
 use Rattle.desk.specs.Line.{mostKilograms}
-use Rattle.desk.specs.Lent.{Lent}
+use Rattle.desk.specs.Entries.{fugitiveOk}
+use Rattle.desk.specs.Lent.{Sources, Lent}
+use Rattle.fugitive.specs.Grades.{gas, particulates}
+use Rattle.fugitive.specs.Entry.{entrySize}
 use Rattle.desk.specs.Cells.{width, tableSize, cellsOf}
-use Rattle.desk.specs.Account.{lineOutcome}
-use Rattle.desk.specs.Table.{bySheet, byLines, cellsAfter}
+use Rattle.desk.specs.Account.{misgraded, lineOutcome}
+use Rattle.desk.specs.Table.{bySheet, orNext, byLines, cellsAfter}
 use Rattle.desk.specs.Demands.{tableGrid, Demand3}
 use Rattle.desk.specs.Declare.{BothAfter}
+use Rattle.desk.specs.declared.dust.Dust.{Dust}
+use Rattle.desk.specs.declared.dust.Dust.the-variants.{Escapes, NoEntry}
 use Rattle.desk.specs.declared.key.Key.{Key}
 use Rattle.desk.specs.declared.line.Line.{Line}
 use Rattle.desk.specs.declared.row.Row.{Row}
 use Rattle.desk.specs.declared.row.RowSearch.{RowSearch}
 use Rattle.desk.specs.declared.row.RowSearch.the-variants.{Hit, Miss}
 use Rattle.desk.specs.declared.account.LineOutcome.{LineOutcome}
-use Rattle.answers.specs.declared.answer.FileFault.the-variants.{BookMalformed}
 use Rattle.answers.specs.declared.answer.Outcome.{Outcome}
-use Rattle.answers.specs.declared.answer.Outcome.the-variants.{Accepted, RefusedFile}
+use Rattle.answers.specs.declared.answer.Outcome.the-variants.{Accepted}
 use Rattle.desk.specs.declared.cells.TableRow.{TableRow}
 use Rattle.desk.specs.declared.tally.Tally.{Tally}
 
@@ -54,6 +58,14 @@ farthest = 8_589_934_592
 -- the bytes of a row that starts at `at` are there
 abbrev pub RowIn : (b : List ℕ) (at : ℕ) → Type 0
 RowIn b at = at + bookHeader b .rowSize ≤ length b
+
+-- the bytes of an entry that starts at `at` are there
+abbrev pub EntryIn : (f : List ℕ) (at : ℕ) → Type 0
+EntryIn f at = at + entrySize ≤ length f
+
+-- the five codes that stand at `at` are there
+abbrev pub CodesIn : (s : List ℕ) (at : ℕ) → Type 0
+CodesIn s at = at + 10 ≤ length s
 
 -- the bytes of a line that starts at `at` are there
 abbrev pub LineIn : (s : List ℕ) (at : ℕ) → Type 0
@@ -94,9 +106,16 @@ atScale k scale =
       pollutant = k .pollutant;
     }
 
--- the last three of its fields
+-- its five codes, and its other fields
+abbrev pub codeFields : Key → List ℕ
+codeFields k = k .industry ∷ k .product ∷ k .material ∷ k .process ∷ k .scale ∷ []
+
 abbrev pub restFields : Key → List ℕ
-restFields k = k .scale ∷ k .medium ∷ k .pollutant ∷ []
+restFields k = k .medium ∷ k .pollutant ∷ []
+
+-- the five codes that stand at `at`
+unfoldable pub codesAt : (s : List ℕ) (at : ℕ) → List ℕ
+codesAt s at = u16At s at ∷ u16At s (at + 2) ∷ u16At s (at + 4) ∷ u16At s (at + 6) ∷ u16At s (at + 8) ∷ []
 
 -- how one key stands to another
 unfoldable pub keyOrder : Key → Key → Order
@@ -119,6 +138,26 @@ rowFits b t at =
 pub record Passed (b : List ℕ) (k : Key) (n : ℕ) : Type 0 where
   pub within : n ≤ rowCount b
   pub none : first n (rowHas b k) ≡ Nothing
+
+-- ---- the dust of a line
+
+-- a key of particulates in gas
+pub record OfDust (k : Key) : Type 0 where
+  pub medium : k .medium ≡ gas
+  pub pollutant : k .pollutant ≡ particulates
+
+-- three factors u16, of 100 units each, on the most product
+abbrev pub mostDust : ℕ
+mostDust = 19_660_500_000_000_000
+
+abbrev pub SmallDust : Dust → Type 0
+SmallDust (Escapes F) = F ≤ mostDust
+SmallDust NoEntry = Unit
+
+-- r is the dust that is meant, and it is small
+pub record FindsDust (r meant : Dust) : Type 0 where
+  pub eq : r ≡ meant
+  pub small : SmallDust r
 
 -- ---- the technique search
 
@@ -150,6 +189,11 @@ pub record FindsRow (r meant : RowSearch) : Type 0 where
 
 -- ---- a line
 
+-- what rules 1 and 13 leave
+pub record Right (from : Sources) : Type 0 where
+  pub book : bookOk (from .book) ≡ true
+  pub fugitive : fugitiveOk (from .fugitive) ≡ true
+
 -- r is the line that is meant, and its key is small
 pub record ReadsLine (r meant : Line) : Type 0 where
   pub eq : r ≡ meant
@@ -178,12 +222,19 @@ pub record Treatable (t : List ℕ) (row : Row) (line : Line) : Type 0 where
   pub activity : Moderate line
   pub reuse : line .reuse ≤ wholeShare
 
--- what rules 1, 4 and 5 leave
-pub record Accountable (b : List ℕ) (line : Line) : Type 0 where
-  pub book : bookOk b ≡ true
+-- what rules 1, 13, 4, 5, 15 and 6 leave
+pub record Gradable (t f : List ℕ) (row : Row) (line : Line) : Type 0 where
+  pub able : Treatable t row line
+  pub fugitive : fugitiveOk f ≡ true
+  pub graded : misgraded line ≡ false
+
+-- what rules 1, 13, 4, 5 and 15 leave
+pub record Accountable (from : Sources) (line : Line) : Type 0 where
+  pub right : Right from
   pub key : SmallKey (line .key)
   pub activity : Moderate line
   pub reuse : line .reuse ≤ wholeShare
+  pub graded : misgraded line ≡ false
 
 -- ---- the tables
 
@@ -195,26 +246,26 @@ withRow i row cells = take (width * i) cells ++ (cellsOf row ++ drop width (drop
 abbrev pub Fitting : Tally → TableRow → Type 0
 Fitting t row = (j : ℕ) → j < width → at (cellsOf (t .sums)) j + at (cellsOf row) j < 18_446_744_073_709_551_616
 
--- rules 1, 2 and 3 as in `byFiles`, where it is known whether the book is right
-abbrev pub filesTold : (good : Bool) (s : List ℕ) (room : ℕ) → Outcome
-filesTold good s room = cond good (bySheet s room) (RefusedFile BookMalformed)
+-- rules 1, 13, 2 and 3 as in `byFiles`, where it is known what is wrong with the sources
+abbrev pub filesTold : (told : Outcome) (s : List ℕ) (room : ℕ) → Outcome
+filesTold told s room = orNext told (bySheet s room)
 
--- what rules 1, 2 and 3 leave, for results of which the shortest has this room
+-- what rules 1, 13, 2 and 3 leave, for results of which the shortest has this room
 pub record Ready (f : Lent) (room : ℕ) : Type 0 where
-  pub book : bookOk (f .book) ≡ true
+  pub sources : Right (f .sources)
   pub sheet : sheetOk (f .sheet) ≡ true
   pub fits : tableSize (lineCount (f .sheet)) ≤ room
 
 -- what accounting for line i asks
 pub record LineReady (f : Lent) (i : ℕ) : Type 0 where
-  pub book : bookOk (f .book) ≡ true
+  pub sources : Right (f .sources)
   pub there : LineThere (f .sheet) i
 
 -- what filling asks
 pub record Fillable (f : Lent) (lines : ℕ) (cells : List ℕ) : Type 0 where
   pub few : lines ≤ mostLines
   pub fits : tableSize lines ≤ length cells
-  pub book : bookOk (f .book) ≡ true
+  pub sources : Right (f .sources)
   pub there : (i : ℕ) → i < lines → LineThere (f .sheet) i
 
 -- what filling says of its answer r and of what the cells hold afterwards
@@ -233,8 +284,9 @@ pub record Showable (unit lines : ℕ) (exact shown : List ℕ) : Type 0 where
 abbrev pub shownOver : (unit lines : ℕ) (exact shown : List ℕ) → List ℕ
 shownOver unit lines exact shown = shownTable (tableGrid unit lines) (take (tableSize lines) exact) ++ drop (tableSize lines) shown
 
--- the promise where rules 1, 2 and 3 leave it to the lines
+-- the promise where rules 1, 13, 2 and 3 leave it to the lines
 pub record LinesDeclared (f : Lent) (exact shown : List ℕ) (r : Outcome) (exact' shown' : List ℕ) : Type 0 where
   pub answer : r ≡ byLines (lineCount (f .sheet)) (lineOutcome f)
   pub tables : BothAfter f exact shown r exact' shown'
   pub allowed : r ≡ Accepted → Demand3 f exact' shown'
+  pub past : r ≡ Accepted → drop (tableSize (lineCount (f .sheet))) shown' ≡ drop (tableSize (lineCount (f .sheet))) shown

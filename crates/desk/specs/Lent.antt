@@ -2,9 +2,17 @@
 use Prim.Native.Nat.{ℕ}
 use mathlib.Core.List.{List}
 
-pub record Lent : Type 0 where
+-- where the figures come from, for every sheet alike: the coefficient book and the fugitive table
+pub record Sources : Type 0 where
   pub book : List ℕ
+  pub fugitive : List ℕ
+
+abbrev pub sources : (book fugitive : List ℕ) → Sources
+sources book fugitive = record { book = book; fugitive = fugitive }
+
+pub record Lent : Type 0 where
+  pub sources : Sources
   pub sheet : List ℕ
 
-abbrev pub lent : (book sheet : List ℕ) → Lent
-lent book sheet = record { book = book; sheet = sheet }
+abbrev pub lent : (from : Sources) (sheet : List ℕ) → Lent
+lent from sheet = record { sources = from; sheet = sheet }

@@ -6,6 +6,8 @@ pub mod Technique
 pub mod Sheet
 pub mod Line
 pub mod Found
+pub mod Entries
+pub mod Dust
 pub mod Cells
 pub mod Account
 pub mod Tally

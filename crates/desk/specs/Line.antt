@@ -4,10 +4,11 @@ use mathlib.Core.Bool.{cond}
 use mathlib.Core.List.{List}
 use lib.Dec.{eqb}
 use lib.Ieee.{Float, binary64, ofBits}
-use Rattle.little.specs.Read.{u16At, u64At}
+use Rattle.little.specs.Read.{byteAt, u16At, u64At}
 use Rattle.desk.specs.Key.{keyFrom}
 use Rattle.headers.specs.Sheet.{sheetHeader}
 use Rattle.desk.specs.Sheet.{lineStart, kindAt}
+use Rattle.fugitive.specs.declared.grades.Grades.{Grades}
 use Rattle.desk.specs.declared.line.Line.{Line}
 use Rattle.shares.specs.declared.share.Reading.{Reading}
 use Rattle.shares.specs.declared.share.Reading.the-variants.{None, Hours, Energy, Throughout}
@@ -27,6 +28,10 @@ readingAt s at =
     (Energy (record { kwh = floatAt s (at + 32); kw = floatAt s (at + 40); hours = floatAt s (at + 48) }))
     (cond (eqb (kindAt s at) 3) Throughout None))
 
+-- of the three places where dust escapes: crushing and feeding, tapping, furnace spill
+unfoldable pub gradesAt : List ℕ → ℕ → Grades
+gradesAt s at = record { crushing = byteAt s (at + 56); tapping = byteAt s (at + 57); spill = byteAt s (at + 58) }
+
 -- its key has the sheet's medium and pollutant
 abbrev pub lineAt : List ℕ → ℕ → Line
 lineAt s at =
@@ -37,6 +42,7 @@ lineAt s at =
       product = u64At s (at + 16);
       material = u64At s (at + 24);
       reading = readingAt s at;
+      grades = gradesAt s at;
     }
 
 -- line i of the sheet

@@ -3,12 +3,12 @@ use Prim.Native.Nat.{ℕ, _+_, _*_}
 use mathlib.Core.Bool.{Bool, _&&_}
 use mathlib.Core.List.{List, [], _∷_}
 use lib.Dec.{leb, eqb}
-use Rattle.little.specs.Read.{byteAt, u64At}
+use Rattle.little.specs.Read.{byteAt, u32At}
 use Rattle.search.specs.Test.{all, every}
 use Rattle.headers.specs.Sheet.{sheetHeader, lineCount, lineSize, sheetHeaderOk}
 
 -- ---- a line, 64 bytes: industry, product, material, process, scale, technique, reuse (u16 each); reading kind u8; zero u8;
--- ---- product kg u64; material kg u64; three binary64 a, b, c; eight zero bytes
+-- ---- product kg u64; material kg u64; three binary64 a, b, c; three grades u8; five zero bytes
 
 abbrev pub lineStart : List ℕ → ℕ → ℕ
 lineStart s i = sheetHeader s .lineOffset + lineSize * i
@@ -22,7 +22,8 @@ lineOk s i =
     every
     (leb (kindAt s (lineStart s i)) 3
     ∷ eqb (byteAt s (lineStart s i + 15)) 0
-    ∷ eqb (u64At s (lineStart s i + 56)) 0
+    ∷ eqb (byteAt s (lineStart s i + 59)) 0
+    ∷ eqb (u32At s (lineStart s i + 60)) 0
     ∷ [])
 
 abbrev pub linesOk : List ℕ → Bool

@@ -5,14 +5,15 @@ use mathlib.Core.Bool.{cond}
 use mathlib.Core.List.{List, [], _++_}
 use lib.ListN.{length, drop, replicate}
 use lib.Dec.{leb}
-use Rattle.desk.specs.Lent.{Lent}
+use Rattle.desk.specs.Lent.{Sources, Lent}
 use Rattle.desk.specs.Book.{bookOk}
+use Rattle.desk.specs.Entries.{fugitiveOk}
 use Rattle.headers.specs.Sheet.{lineCount}
 use Rattle.desk.specs.Sheet.{sheetOk}
 use Rattle.desk.specs.Account.{lineOutcome}
 use Rattle.desk.specs.Cells.{tableSize, cellsOf, zeros}
 use Rattle.desk.specs.Tally.{start, add}
-use Rattle.answers.specs.declared.answer.FileFault.the-variants.{BookMalformed, SheetMalformed, ResultTooShort}
+use Rattle.answers.specs.declared.answer.FileFault.the-variants.{BookMalformed, FugitiveMalformed, SheetMalformed, ResultTooShort}
 use Rattle.answers.specs.declared.answer.Outcome.{Outcome}
 use Rattle.answers.specs.declared.answer.Outcome.the-variants.{Accepted, RefusedFile, RefusedLine}
 use Rattle.desk.specs.declared.account.LineOutcome.{LineOutcome}
@@ -48,9 +49,20 @@ roomFor lines room = cond (leb (tableSize lines) room) Accepted (RefusedFile Res
 abbrev pub bySheet : (s : List ℕ) (room : ℕ) → Outcome
 bySheet s room = cond (sheetOk s) (roomFor (lineCount s) room) (RefusedFile SheetMalformed)
 
--- what is wrong with the book, the sheet, the room, in this order; for results of which the shortest has this room
+-- what is wrong with the book, and then with the fugitive table
+unfoldable pub bySources : (from : Sources) → Outcome
+bySources from =
+    cond (bookOk (from .book)) (cond (fugitiveOk (from .fugitive)) Accepted (RefusedFile FugitiveMalformed)) (RefusedFile BookMalformed)
+
+-- what is refused first stands; where that is nothing, the next answer does
+abbrev pub orNext : (first next : Outcome) → Outcome
+orNext Accepted next = next
+orNext (RefusedFile fault) next = RefusedFile fault
+orNext (RefusedLine fault line) next = RefusedLine fault line
+
+-- what is wrong with the sources, the sheet, the room, in this order; for results of which the shortest has this room
 unfoldable pub byFiles : (f : Lent) (room : ℕ) → Outcome
-byFiles f room = cond (bookOk (f .book)) (bySheet (f .sheet) room) (RefusedFile BookMalformed)
+byFiles f room = orNext (bySources (f .sources)) (bySheet (f .sheet) room)
 
 -- the first refused line decides; lines count from 1
 abbrev pub orLine : (so-far : Outcome) (line : LineOutcome) (n : ℕ) → Outcome
@@ -63,13 +75,8 @@ unfoldable pub byLines : (n : ℕ) (l : ℕ → LineOutcome) → Outcome
 byLines zero l = Accepted
 byLines (suc n) l = orLine (byLines n l) (l n) n
 
-abbrev pub orElseLines : (files lines : Outcome) → Outcome
-orElseLines Accepted o = o
-orElseLines (RefusedFile fault) o = RefusedFile fault
-orElseLines (RefusedLine fault line) o = RefusedLine fault line
-
 unfoldable pub answerOf : (f : Lent) (room : ℕ) → Outcome
-answerOf f room = orElseLines (byFiles f room) (byLines (lineCount (f .sheet)) (lineOutcome f))
+answerOf f room = orNext (byFiles f room) (byLines (lineCount (f .sheet)) (lineOutcome f))
 
 -- ---- the cells
 

@@ -11,7 +11,7 @@ use Rattle.answers.specs.declared.bundle.BundleOutcome.{BundleOutcome}
 use Rattle.answers.specs.declared.bundle.BundleOutcome.the-variants.{Taken}
 use Rattle.bundle.specs.Bundle.{sheetCount, cellsPerSheet, sheetOf}
 use Rattle.bundle.specs.Whole.{bundleOutcome}
-use Rattle.desk.specs.Lent.{lent}
+use Rattle.desk.specs.Lent.{Sources, lent}
 use Rattle.desk.specs.Declare.{Declared}
 
 -- what is lent to be written: the two results and the outcomes, one a sheet
@@ -28,9 +28,9 @@ abbrev pub runOf : (bundle : List ℕ) (i : ℕ) (cells : List ℕ) → List ℕ
 runOf bundle i cells = partOf cells (i * cellsPerSheet bundle) (cellsPerSheet bundle)
 
 -- sheet i as alone: of its own runs, lent to it alone, the desk makes what stands in them, and its outcome is the desk's answer
-pub record AsAlone (book bundle : List ℕ) (before after : Results) (i : ℕ) : Type 0 where
+pub record AsAlone (from : Sources) (bundle : List ℕ) (before after : Results) (i : ℕ) : Type 0 where
   pub answer : Outcome
-  pub declared : Declared (lent book (sheetOf bundle i))
+  pub declared : Declared (lent from (sheetOf bundle i))
       (runOf bundle i (before .exact)) (runOf bundle i (before .shown))
       answer
       (runOf bundle i (after .exact)) (runOf bundle i (after .shown))
@@ -38,15 +38,15 @@ pub record AsAlone (book bundle : List ℕ) (before after : Results) (i : ℕ) :
   pub outcome : partOf (after .outcomes) i 1 ≡ codeOf answer ∷ []
 
 -- the first n sheets, each as alone; cells past their runs, and outcomes past them, keep their values
-pub record FirstSheets (n : ℕ) (book bundle : List ℕ) (before after : Results) : Type 0 where
-  pub sheets : (i : ℕ) → i < n → AsAlone book bundle before after i
+pub record FirstSheets (n : ℕ) (from : Sources) (bundle : List ℕ) (before after : Results) : Type 0 where
+  pub sheets : (i : ℕ) → i < n → AsAlone from bundle before after i
   pub exactPast : drop (n * cellsPerSheet bundle) (after .exact) ≡ drop (n * cellsPerSheet bundle) (before .exact)
   pub shownPast : drop (n * cellsPerSheet bundle) (after .shown) ≡ drop (n * cellsPerSheet bundle) (before .shown)
   pub outcomesPast : drop n (after .outcomes) ≡ drop n (before .outcomes)
 
 -- all of them
-abbrev pub SheetBySheet : (book bundle : List ℕ) (before after : Results) → Type 0
-SheetBySheet book bundle before after = FirstSheets (sheetCount bundle) book bundle before after
+abbrev pub SheetBySheet : (from : Sources) (bundle : List ℕ) (before after : Results) → Type 0
+SheetBySheet from bundle before after = FirstSheets (sheetCount bundle) from bundle before after
 
 -- every cell is zero
 pub record AllZero (before after : Results) : Type 0 where
@@ -54,8 +54,8 @@ pub record AllZero (before after : Results) : Type 0 where
   pub shown : after .shown ≡ replicate (length (before .shown)) 0
   pub outcomes : after .outcomes ≡ replicate (length (before .outcomes)) 0
 
--- the whole promise for a book, a bundle and what is lent: 16, then 3, before anything else; or sheet by sheet
-pub record BundleDeclared (book bundle : List ℕ) (before : Results) (r : BundleOutcome) (after : Results) : Type 0 where
+-- the whole promise for the sources, a bundle and what is lent: 16, then 3, before anything else; or sheet by sheet
+pub record BundleDeclared (from : Sources) (bundle : List ℕ) (before : Results) (r : BundleOutcome) (after : Results) : Type 0 where
   pub answer : r ≡ bundleOutcome bundle (length (before .exact)) (length (before .shown)) (length (before .outcomes))
-  pub taken : r ≡ Taken → SheetBySheet book bundle before after
+  pub taken : r ≡ Taken → SheetBySheet from bundle before after
   pub refused : r ≢ Taken → AllZero before after

@@ -1,17 +1,18 @@
 // From a line to its amounts.
 ghost use mathlib.Core.Path.{_≡_};
-ghost use mathlib.Core.Bool.{true};
-ghost use Prim.Native.Nat.{_<_};
+ghost use Prim.Native.Nat.{_≤_};
 ghost use Rattle.amounts.specs.Line.{Admissible, amountsOf};
 ghost use Rattle.headers.specs.Book.{techniqueBlock};
-ghost use Rattle.desk.specs.Book.{bookOk};
 ghost use Rattle.shares.specs.Share.{shareBy};
 ghost use Rattle.desk.specs.Row.{rowOf};
-ghost use Rattle.desk.specs.Lent.{lent};
-ghost use Rattle.desk.specs.Account.{treated, treatmentOf, generatedOf, byTreatment, byRow, accountOf, lineOutcome};
-ghost use Rattle.desk.specs.Inner.{Listed, SmallKey, SmallProduct, SmallRow, Treatable, Accountable, LineReady};
+ghost use Rattle.desk.specs.Lent.{sources, lent};
+ghost use Rattle.desk.specs.Dust.{dustOf};
+ghost use Rattle.desk.specs.Account.{treated, treatmentOf, generatedOf, byTreatment, byDust, byRow, accountOf, lineOutcome};
+ghost use Rattle.desk.specs.Inner.{Listed, SmallKey, SmallProduct, SmallRow, mostDust, Treatable, Gradable, Right, Accountable, LineReady};
 use super::cells::TableRow;
 use super::cells::row_from;
+use super::dust::Dust;
+use super::dust::dust_of;
 use super::line::Line;
 use super::line::MOST_KILOGRAMS;
 use super::line::WHOLE_SHARE;
@@ -102,39 +103,53 @@ fn amounts_of(
     }
 }
 
-fn by_treatment(t: &[u8], row: Row, line: Line) -> LineOutcome
-    requires { ⌜ Treatable (now t) row line ⌝ }
-    ensures { λ r. ⌜ r ≡ byTreatment row line (treatmentOf (now (t .entry)) row (line .technique) (line .reading)) ⌝ }
+// Where it is known what escapes.
+fn by_treatment(t: &[u8], row: Row, line: Line, fugitive: u64) -> LineOutcome
+    requires { ⌜ Treatable (now t) row line × (fugitive ≤ mostDust) ⌝ }
+    ensures { λ r. ⌜ r ≡ byTreatment row line fugitive (treatmentOf (now (t .entry)) row (line .technique) (line .reading)) ⌝ }
 {
     let key = line.key;
     let reading = line.reading;
     match treatment_of(t, row, line.technique, reading) {
         Treatment::NoTreatment(fault) => LineOutcome::Refusal(fault),
-        Treatment::By(efficiency, n, d) => LineOutcome::Given(row_from(amounts_of(
-            generated(row, line),
-            efficiency,
-            n,
-            d,
-            line.reuse,
-            key.medium == 1,
-        ))),
+        Treatment::By(efficiency, n, d) => {
+            let amounts = amounts_of(
+                generated(row, line),
+                efficiency,
+                n,
+                d,
+                line.reuse,
+                key.medium == 1,
+            );
+            LineOutcome::Given(row_from(amounts, fugitive))
+        }
     }
 }
 
-fn by_row(b: &[u8], line: Line) -> LineOutcome
-    requires { ⌜ Accountable (now b) line ⌝ }
-    ensures { λ r. ⌜ r ≡ byRow (techniqueBlock (now (b .entry))) line (rowOf (now (b .entry)) (line .key)) ⌝ }
+fn by_dust(t: &[u8], f: &[u8], row: Row, line: Line) -> LineOutcome
+    requires { ⌜ Gradable (now t) (now f) row line ⌝ }
+    ensures { λ r. ⌜ r ≡ byDust (now (t .entry)) row line (dustOf (now (f .entry)) line) ⌝ }
+{
+    match dust_of(f, line) {
+        Dust::NoEntry => LineOutcome::Refusal(LineFault::NoFugitiveEntry),
+        Dust::Escapes(fugitive) => by_treatment(t, row, line, fugitive),
+    }
+}
+
+fn by_row(b: &[u8], f: &[u8], line: Line) -> LineOutcome
+    requires { ⌜ Accountable (sources (now b) (now f)) line ⌝ }
+    ensures { λ r. ⌜ r ≡ byRow (techniqueBlock (now (b .entry))) (now (f .entry)) line (rowOf (now (b .entry)) (line .key)) ⌝ }
 {
     let key = line.key;
     match row_of(b, key) {
         RowSearch::Miss => LineOutcome::Refusal(LineFault::NoRow),
-        RowSearch::Hit(row) => by_treatment(technique_block(b), row, line),
+        RowSearch::Hit(row) => by_dust(technique_block(b), f, row, line),
     }
 }
 
-fn account(b: &[u8], line: Line) -> LineOutcome
-    requires { ⌜ (bookOk (now b) ≡ true) × SmallKey (line .key) ⌝ }
-    ensures { λ r. ⌜ r ≡ accountOf (now (b .entry)) line ⌝ }
+fn account(b: &[u8], f: &[u8], line: Line) -> LineOutcome
+    requires { ⌜ Right (sources (now b) (now f)) × SmallKey (line .key) ⌝ }
+    ensures { λ r. ⌜ r ≡ accountOf (sources (now (b .entry)) (now (f .entry))) line ⌝ }
 {
     let excessive = (MOST_KILOGRAMS < line.product) | (MOST_KILOGRAMS < line.material);
     if excessive {
@@ -143,13 +158,18 @@ fn account(b: &[u8], line: Line) -> LineOutcome
     if WHOLE_SHARE < line.reuse {
         return LineOutcome::Refusal(LineFault::ReuseTooLarge);
     }
-    by_row(b, line)
+    let key = line.key;
+    let grades = line.grades;
+    if grades.is_bad(key.medium, key.pollutant) {
+        return LineOutcome::Refusal(LineFault::BadGrade);
+    }
+    by_row(b, f, line)
 }
 
-pub(crate) fn line_outcome(b: &[u8], s: &[u8], i: usize) -> LineOutcome
-    requires { ⌜ LineReady (lent (now b) (now s)) i ⌝ }
-    ensures { λ r. ⌜ r ≡ lineOutcome (lent (now (b .entry)) (now (s .entry))) i ⌝ }
+pub(crate) fn line_outcome(b: &[u8], f: &[u8], s: &[u8], i: usize) -> LineOutcome
+    requires { ⌜ LineReady (lent (sources (now b) (now f)) (now s)) i ⌝ }
+    ensures { λ r. ⌜ r ≡ lineOutcome (lent (sources (now (b .entry)) (now (f .entry))) (now (s .entry))) i ⌝ }
 {
     let reading = reading_at(s, line_start(s, i));
-    account(b, line_of(s, i, reading))
+    account(b, f, line_of(s, i, reading))
 }

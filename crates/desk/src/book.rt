@@ -13,6 +13,7 @@ use super::inside::byte_in;
 use super::inside::u16_in;
 use super::inside::u32_in;
 use super::key::Key;
+use super::key::codes_order;
 use super::key::key_from;
 use super::run::RUNS_APART;
 use super::run::fill_runs;
@@ -44,15 +45,11 @@ fn key_at(b: &[u8], at: usize) -> Key
     key_from(b, at, byte_in(b, at, 10), byte_in(b, at, 11))
 }
 
-// How the last three fields of the key of the row that starts at `at` stand to those of this key with this scale.
-fn rest_order(b: &[u8], at: usize, k: Key, scale: usize) -> Order
+// How the medium and the pollutant of the row that starts at `at` stand to those of this key.
+fn rest_order(b: &[u8], at: usize, k: Key) -> Order
     requires { ⌜ RowIn (now b) at ⌝ }
-    ensures { λ r. ⌜ r ≡ listOrder (restFields (keyAt (now (b .entry)) at)) (restFields (atScale k scale)) ⌝ }
+    ensures { λ r. ⌜ r ≡ listOrder (restFields (keyAt (now (b .entry)) at)) (restFields k) ⌝ }
 {
-    let row_scale = u16_in(b, at, 8);
-    if row_scale != scale {
-        return order_of(row_scale, scale);
-    }
     let medium = byte_in(b, at, 10);
     if medium != k.medium {
         return order_of(medium, k.medium);
@@ -60,29 +57,16 @@ fn rest_order(b: &[u8], at: usize, k: Key, scale: usize) -> Order
     order_of(byte_in(b, at, 11), k.pollutant)
 }
 
-// How the key of the row that starts at `at` stands to this key with this scale. It is compared where it stands, field by field, and
-// nothing is read past the first field that differs.
+// How the key of the row that starts at `at` stands to this key with this scale.
 pub(crate) fn row_order(b: &[u8], at: usize, k: Key, scale: usize) -> Order
     requires { ⌜ RowIn (now b) at ⌝ }
     ensures { λ r. ⌜ r ≡ keyOrder (keyAt (now (b .entry)) at) (atScale k scale) ⌝ }
 {
-    let industry = u16_in(b, at, 0);
-    if industry != k.industry {
-        return order_of(industry, k.industry);
+    match codes_order(b, at, k, scale) {
+        Order::Before => Order::Before,
+        Order::Same => rest_order(b, at, k),
+        Order::After => Order::After,
     }
-    let product = u16_in(b, at, 2);
-    if product != k.product {
-        return order_of(product, k.product);
-    }
-    let material = u16_in(b, at, 4);
-    if material != k.material {
-        return order_of(material, k.material);
-    }
-    let process = u16_in(b, at, 6);
-    if process != k.process {
-        return order_of(process, k.process);
-    }
-    rest_order(b, at, k, scale)
 }
 
 fn fields_ok(b: &[u8], at: usize) -> bool

@@ -1,13 +1,13 @@
 // A row of the tables as a value, and the cells that it is written in.
 ghost use mathlib.Core.Path.{_≡_};
 ghost use lib.ListN.{length};
-ghost use Prim.Native.Nat.{_≤_, _+_, _*_};
+ghost use Prim.Native.Nat.{_<_, _≤_, _+_, _*_};
 ghost use Rattle.desk.specs.Cells.{cellsOf, rowFrom, width};
 ghost use Rattle.desk.specs.Inner.{withRow};
 use amounts::line::Amounts;
 
-// The cells of a row: G, R, U, D.
-pub const COLUMNS: usize = 4;
+// The cells of a row: G, R, U, D, F.
+pub const COLUMNS: usize = 5;
 
 // The column of what is discharged, counted from 0.
 pub const DISCHARGED: usize = 3;
@@ -18,16 +18,20 @@ pub struct TableRow {
     pub removed: u64,
     pub reused: u64,
     pub discharged: u64,
+    pub fugitive: u64,
 }
 
-pub(crate) fn row_from(a: Amounts) -> TableRow
-    ensures { λ r. ⌜ r ≡ rowFrom a ⌝ }
+// What escapes is not among the amounts that are treated: it raises G, and stands by itself.
+pub(crate) fn row_from(a: Amounts, fugitive: u64) -> TableRow
+    requires { ⌜ a .generated + fugitive < 18_446_744_073_709_551_616 ⌝ }
+    ensures { λ r. ⌜ r ≡ rowFrom a fugitive ⌝ }
 {
     TableRow {
-        generated: a.generated,
+        generated: a.generated + fugitive,
         removed: a.removed,
         reused: a.reused,
         discharged: a.discharged,
+        fugitive,
     }
 }
 
@@ -40,6 +44,7 @@ fn write_row(cells: &mut [u64], row: TableRow)
     cells[1] = row.removed;
     cells[2] = row.reused;
     cells[3] = row.discharged;
+    cells[4] = row.fugitive;
 }
 
 // Row i of a table, written in its own part of the table's cells.

@@ -1,10 +1,14 @@
-// The seven fields by which a row of the book is found, and by which the rows rise.
+// The seven fields by which a row of the book is found, and by which the rows rise; the entries of the fugitive table have the first five.
+ghost use mathlib.Core.Path.{_≡_};
 ghost use Prim.Native.Nat.{_<_, _≤_, _+_};
 ghost use lib.ListN.{length};
 ghost use Rattle.little.specs.Read.{u16Range};
-ghost use Rattle.desk.specs.Inner.{ReadsKey};
+ghost use Rattle.search.specs.InnerOrder.{listOrder};
+ghost use Rattle.desk.specs.Inner.{CodesIn, ReadsKey, atScale, codeFields, codesAt};
 ghost use Rattle.desk.specs.Key.{keyFrom};
 use super::inside::u16_in;
+use search::order::Order;
+use search::order::order_of;
 
 // Scale 0 stands for all scales.
 pub const ALL_SCALES: usize = 0;
@@ -19,7 +23,7 @@ pub struct Key {
     pub pollutant: usize,
 }
 
-// Rows and lines begin with the same five codes.
+// Rows, lines and entries begin with the same five codes.
 pub(crate) fn key_from(s: &[u8], at: usize, medium: usize, pollutant: usize) -> Key
     requires { ⌜ (at + 10 ≤ length (now s)) × (medium < u16Range) × (pollutant < u16Range) ⌝ }
     ensures { λ r. ⌜ ReadsKey r (keyFrom (now (s .entry)) at medium pollutant) ⌝ }
@@ -33,4 +37,29 @@ pub(crate) fn key_from(s: &[u8], at: usize, medium: usize, pollutant: usize) -> 
         medium,
         pollutant,
     }
+}
+
+// How the five codes that stand at `at` stand to those of this key with this scale. They are compared where they stand, one after the other,
+// and nothing is read past the first that differs.
+pub(crate) fn codes_order(s: &[u8], at: usize, k: Key, scale: usize) -> Order
+    requires { ⌜ CodesIn (now s) at ⌝ }
+    ensures { λ r. ⌜ r ≡ listOrder (codesAt (now (s .entry)) at) (codeFields (atScale k scale)) ⌝ }
+{
+    let industry = u16_in(s, at, 0);
+    if industry != k.industry {
+        return order_of(industry, k.industry);
+    }
+    let product = u16_in(s, at, 2);
+    if product != k.product {
+        return order_of(product, k.product);
+    }
+    let material = u16_in(s, at, 4);
+    if material != k.material {
+        return order_of(material, k.material);
+    }
+    let process = u16_in(s, at, 6);
+    if process != k.process {
+        return order_of(process, k.process);
+    }
+    order_of(u16_in(s, at, 8), scale)
 }

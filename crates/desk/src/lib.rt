@@ -1,9 +1,11 @@
-// The desk: it reads a coefficient book and a sheet, or a bundle of sheets, and accounts for the lines. It relies on the crates below it
+// The desk: it reads a coefficient book, a fugitive table and a sheet, or a bundle of sheets, and accounts for the lines. It relies on the crates below it
 // only through their promises and public laws.
 mod account;
 pub mod book;
 pub mod cells;
 pub mod declare;
+mod dust;
+pub mod entries;
 mod inside;
 pub mod key;
 pub mod line;

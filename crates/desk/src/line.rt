@@ -3,7 +3,7 @@ ghost use mathlib.Core.Path.{_≡_};
 ghost use Prim.Native.Nat.{_≤_, _+_};
 ghost use lib.ListN.{length};
 ghost use Rattle.desk.specs.Inner.{LineIn, LineThere, ReadsLine};
-ghost use Rattle.desk.specs.Line.{floatAt, readingAt, lineOf};
+ghost use Rattle.desk.specs.Line.{floatAt, readingAt, gradesAt, lineOf};
 ghost use Rattle.desk.specs.Found.{sheetLine};
 ghost use Rattle.desk.specs.Sheet.{lineStart};
 use super::inside::byte_in;
@@ -13,6 +13,7 @@ use super::key::Key;
 use super::key::key_from;
 use super::sheet::line_start;
 use amounts::reading::from_bits;
+use fugitive::grades::Grades;
 use headers::sheet::LINE_SIZE;
 use headers::sheet::line_count;
 use shares::share::EnergyReading;
@@ -32,6 +33,7 @@ pub struct Line {
     pub product: u64,
     pub material: u64,
     pub reading: Reading,
+    pub grades: Grades,
 }
 
 // A line whose bytes are there; or not.
@@ -71,6 +73,18 @@ pub(crate) fn reading_at(s: &[u8], at: usize) -> Reading
     Reading::None
 }
 
+// Of the three places where dust escapes.
+fn grades_at(s: &[u8], at: usize) -> Grades
+    requires { ⌜ LineIn (now s) at ⌝ }
+    ensures { λ r. ⌜ r ≡ gradesAt (now (s .entry)) at ⌝ }
+{
+    Grades {
+        crushing: byte_in(s, at, 56),
+        tapping: byte_in(s, at, 57),
+        spill: byte_in(s, at, 58),
+    }
+}
+
 // Line i, with its reading. That is read by a function of its own: the two are each so small that the compiler puts them into every loop
 // that asks for lines.
 pub(crate) fn line_of(s: &[u8], i: usize, reading: Reading) -> Line
@@ -85,6 +99,7 @@ pub(crate) fn line_of(s: &[u8], i: usize, reading: Reading) -> Line
         product: u64_in(s, at, 16),
         material: u64_in(s, at, 24),
         reading,
+        grades: grades_at(s, at),
     }
 }
 

@@ -7,7 +7,7 @@ ghost use Rattle.desk.specs.Inner.{counted, farthest, LineIn};
 ghost use Rattle.headers.specs.Sheet.{sheetHeaderOk};
 ghost use Rattle.desk.specs.Sheet.{lineStart, lineOk, linesOk, sheetOk};
 use super::inside::byte_in;
-use super::inside::u64_in;
+use super::inside::u32_in;
 use headers::sheet::LINE_SIZE;
 use headers::sheet::line_count;
 use headers::sheet::line_offset;
@@ -25,7 +25,10 @@ fn line_ok(s: &[u8], i: usize) -> bool
     ensures { λ r. ⌜ r ≡ lineOk (now (s .entry)) i ⌝ }
 {
     let at = line_start(s, i);
-    (byte_in(s, at, 14) <= 3) & (byte_in(s, at, 15) == 0) & (u64_in(s, at, 56) == 0)
+    (byte_in(s, at, 14) <= 3)
+        & (byte_in(s, at, 15) == 0)
+        & (byte_in(s, at, 59) == 0)
+        & (u32_in(s, at, 60) == 0)
 }
 
 fn lines_ok(s: &[u8]) -> bool

@@ -1,15 +1,16 @@
 // The exact table: a row of cells for each line, and a last row of sums.
 ghost use mathlib.Core.Path.{_≡_};
 ghost use Prim.Native.Nat.{_<_};
-ghost use Rattle.desk.specs.Lent.{lent};
+ghost use Rattle.desk.specs.Lent.{sources, lent};
 ghost use Rattle.desk.specs.Account.{lineOutcome};
-ghost use Rattle.desk.specs.Table.{roomFor, ExactTable};
+ghost use Rattle.desk.specs.Table.{roomFor, bySources, ExactTable};
 ghost use Rattle.desk.specs.Inner.{counted, filesTold, Fillable, Filled};
 use super::account::LineOutcome;
 use super::account::line_outcome;
 use super::book::book_ok;
 use super::cells::COLUMNS;
 use super::cells::put_row;
+use super::entries::fugitive_ok;
 use super::sheet::sheet_ok;
 use super::tally::Tally;
 use answers::answer::FileFault;
@@ -33,30 +34,44 @@ fn room_for(lines: usize, room: usize) -> Outcome
     }
 }
 
-// Rules 1, 2 and 3, for a book of which it is known whether it is right, and results of which the shortest has this room.
-pub(crate) fn by_files(good: bool, s: &[u8], room: usize) -> Outcome
-    ensures { λ r. ⌜ r ≡ filesTold good (now (s .entry)) room ⌝ }
+// Rules 1 and 13, for a book and a fugitive table of any content and size.
+pub fn by_sources(book: &[u8], fugitive: &[u8]) -> Outcome
+    ensures { λ r. ⌜ r ≡ bySources (sources (now (book .entry)) (now (fugitive .entry))) ⌝ }
 {
-    if good {
-        if sheet_ok(s) {
-            room_for(line_count(s), room)
+    if book_ok(book) {
+        if fugitive_ok(fugitive) {
+            Outcome::Accepted
         } else {
-            Outcome::RefusedFile(FileFault::SheetMalformed)
+            Outcome::RefusedFile(FileFault::FugitiveMalformed)
         }
     } else {
         Outcome::RefusedFile(FileFault::BookMalformed)
     }
 }
 
+// Rules 1, 13, 2 and 3, for sources of which it is known what is wrong with them, and results of which the shortest has this room.
+pub(crate) fn by_files(told: Outcome, s: &[u8], room: usize) -> Outcome
+    ensures { λ r. ⌜ r ≡ filesTold told (now (s .entry)) room ⌝ }
+{
+    if let Outcome::Accepted = told {
+        if sheet_ok(s) {
+            return room_for(line_count(s), room);
+        }
+        return Outcome::RefusedFile(FileFault::SheetMalformed);
+    }
+    told
+}
+
 // The lines from 1 up, and the row of sums; or zeros and the first refusal.
-pub(crate) fn fill(b: &[u8], s: &[u8], lines: usize, exact: &mut [u64]) -> Outcome
-    requires { ⌜ Fillable (lent (now b) (now s)) lines (now exact) ⌝ }
-    ensures { λ r. ⌜ Filled lines (lineOutcome (lent (now (b .entry)) (now (s .entry)))) (now (exact .entry)) r (now (exact .exit)) ⌝ }
+pub(crate) fn fill(b: &[u8], f: &[u8], s: &[u8], lines: usize, exact: &mut [u64]) -> Outcome
+    requires { ⌜ Fillable (lent (sources (now b) (now f)) (now s)) lines (now exact) ⌝ }
+    ensures { λ r. ⌜ Filled lines (lineOutcome (lent (sources (now (b .entry)) (now (f .entry))) (now (s .entry))))
+        (now (exact .entry)) r (now (exact .exit)) ⌝ }
 {
     let mut tally = Tally::start();
     let mut i = 0;
     while i < lines {
-        match line_outcome(b, s, i) {
+        match line_outcome(b, f, s, i) {
             LineOutcome::Refusal(fault) => {
                 clear(exact);
                 return Outcome::RefusedLine(fault, (i + 1) as u16);
@@ -72,14 +87,15 @@ pub(crate) fn fill(b: &[u8], s: &[u8], lines: usize, exact: &mut [u64]) -> Outco
     Outcome::Accepted
 }
 
-// The exact table alone, for a book and a sheet of any content and a result of any size. On refusal every cell is zero; on acceptance
-// the cells past the table keep their values.
-pub fn exact_table(book: &[u8], sheet: &[u8], exact: &mut [u64]) -> Outcome
-    ensures { λ r. ⌜ ExactTable (lent (now (book .entry)) (now (sheet .entry))) (now (exact .entry)) r (now (exact .exit)) ⌝ }
+// The exact table alone, for a book, a fugitive table and a sheet of any content and a result of any size. On refusal every cell is zero; on
+// acceptance the cells past the table keep their values.
+pub fn exact_table(book: &[u8], fugitive: &[u8], sheet: &[u8], exact: &mut [u64]) -> Outcome
+    ensures { λ r. ⌜ ExactTable (lent (sources (now (book .entry)) (now (fugitive .entry))) (now (sheet .entry)))
+        (now (exact .entry)) r (now (exact .exit)) ⌝ }
 {
-    let refusal = by_files(book_ok(book), sheet, exact.len());
+    let refusal = by_files(by_sources(book, fugitive), sheet, exact.len());
     if let Outcome::Accepted = refusal {
-        return fill(book, sheet, line_count(sheet), exact);
+        return fill(book, fugitive, sheet, line_count(sheet), exact);
     }
     clear(exact);
     refusal

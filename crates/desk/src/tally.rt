@@ -18,6 +18,7 @@ impl Tally {
                 removed: 0,
                 reused: 0,
                 discharged: 0,
+                fugitive: 0,
             },
         }
     }
@@ -32,6 +33,7 @@ impl Tally {
             removed: sums.removed + row.removed,
             reused: sums.reused + row.reused,
             discharged: sums.discharged + row.discharged,
+            fugitive: sums.fugitive + row.fugitive,
         };
         self.sums = more;
         self

@@ -3,10 +3,11 @@ ghost use mathlib.Core.Path.{_≡_};
 ghost use mathlib.Core.Bool.{true};
 ghost use lib.ListN.{length};
 ghost use Rattle.bundle.specs.Whole.{roomy};
+ghost use Rattle.desk.specs.Lent.{sources};
 ghost use Rattle.desk.specs.Works.{results, SheetBySheet, BundleDeclared};
 ghost use Rattle.desk.specs.InnerWorks.{SheetReady, SheetDone};
-use super::book::book_ok;
 use super::declare::declare_told;
+use super::table::by_sources;
 use answers::answer::Outcome;
 use answers::bundle::BundleOutcome;
 use bundle::entry::sheet_of;
@@ -17,68 +18,72 @@ use little::cells::clear;
 
 // Sheet i is lent its own run of each result, and nothing else of them.
 fn declare_sheet(
-    good: bool,
+    told: Outcome,
     book: &[u8],
+    fugitive: &[u8],
     bundle: &[u8],
     i: usize,
     exact: &mut [u64],
     shown: &mut [u64],
 ) -> Outcome
-    requires { ⌜ SheetReady good (now book) (now bundle) i (now exact) (now shown) ⌝ }
-    ensures { λ r. ⌜ SheetDone (now (book .entry)) (now (bundle .entry)) i
+    requires { ⌜ SheetReady told (sources (now book) (now fugitive)) (now bundle) i (now exact) (now shown) ⌝ }
+    ensures { λ r. ⌜ SheetDone (sources (now (book .entry)) (now (fugitive .entry))) (now (bundle .entry)) i
         (now (exact .entry)) (now (shown .entry)) r (now (exact .exit)) (now (shown .exit)) ⌝ }
 {
     let cells = cells_per_sheet(bundle);
     let from = i * cells;
     let to = from + cells;
     declare_told(
-        good,
+        told,
         book,
+        fugitive,
         sheet_of(bundle, i),
         &mut exact[from..to],
         &mut shown[from..to],
     )
 }
 
-// The book is looked at once for all sheets.
+// The sources are looked at once for all sheets.
 fn each_sheet(
     book: &[u8],
+    fugitive: &[u8],
     bundle: &[u8],
     exact: &mut [u64],
     shown: &mut [u64],
     outcomes: &mut [u64],
 )
     requires { ⌜ roomy (now bundle) (length (now exact)) (length (now shown)) (length (now outcomes)) ≡ true ⌝ }
-    ensures { λ _. ⌜ SheetBySheet (now (book .entry)) (now (bundle .entry))
+    ensures { λ _. ⌜ SheetBySheet (sources (now (book .entry)) (now (fugitive .entry))) (now (bundle .entry))
         (results (now (exact .entry)) (now (shown .entry)) (now (outcomes .entry)))
         (results (now (exact .exit)) (now (shown .exit)) (now (outcomes .exit))) ⌝ }
 {
-    let good = book_ok(book);
+    let told = by_sources(book, fugitive);
     let sheets = sheet_count(bundle);
     let mut i = 0;
     while i < sheets {
-        let outcome = declare_sheet(good, book, bundle, i, exact, shown);
+        let outcome = declare_sheet(told, book, fugitive, bundle, i, exact, shown);
         outcomes[i] = outcome.code();
         i += 1;
     }
 }
 
-// Every sheet's figures or refusal, for a book and a bundle of any content, results and outcomes of any size. A refusal of the whole comes
+// Every sheet's figures or refusal, for a book, a fugitive table and a bundle of any content, results and outcomes of any size. A refusal of the whole comes
 // before anything else and zeroes all that is lent; a sheet's own refusal zeroes its runs only.
 pub fn declare_bundle(
     book: &[u8],
+    fugitive: &[u8],
     bundle: &[u8],
     exact: &mut [u64],
     shown: &mut [u64],
     outcomes: &mut [u64],
 ) -> BundleOutcome
-    ensures { λ r. ⌜ BundleDeclared (now (book .entry)) (now (bundle .entry))
+    ensures { λ r. ⌜ BundleDeclared (sources (now (book .entry)) (now (fugitive .entry))) (now (bundle .entry))
         (results (now (exact .entry)) (now (shown .entry)) (now (outcomes .entry))) r
         (results (now (exact .exit)) (now (shown .exit)) (now (outcomes .exit))) ⌝ }
 {
     let whole = bundle_outcome(bundle, exact.len(), shown.len(), outcomes.len());
     if let BundleOutcome::Taken = whole {
-        each_sheet(book, bundle, exact, shown, outcomes);
+        each_sheet(book, fugitive, bundle, exact, shown, outcomes);
         return whole;
     }
     clear(exact);

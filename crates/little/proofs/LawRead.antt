@@ -1,12 +1,13 @@
 -- Past the end every number is 0, of bytes every number is below its range, and a number is what stands from its place on: each of its
 -- halves is, by the law of half its bytes. Assumes nothing.
-use Prim.Native.Nat.{ℕ, _+_, _^_, _≤_, _<_}
-use mathlib.Core.List.{List}
+use Prim.Native.Nat.{ℕ, zero, suc, _+_, _^_, _≤_, _<_}
+use mathlib.Core.List.{List, [], _∷_}
 use mathlib.Core.Path.{_≡_, sym}
 use native.Mathlib.Nat.{add-assoc}
 use native.Mathlib.Omega.{arith}
-use lib.ListN.{length, drop, List·getD-eq-default}
+use lib.ListN.{length, take, drop, List·getD-eq-default}
 use lib.Seq.{getD-drop}
+use Rattle.little.specs.Part.{partOf}
 use Rattle.little.specs.Read.{u16Range, u32Range, byteAt, u16At, u32At, u64At, AreBytes}
 
 pub byte-past : (s : List ℕ) (at : ℕ) → length s ≤ at → byteAt s at ≡ 0
@@ -35,6 +36,16 @@ u32-below s bytes at = omega (arith, u16-below s bytes at, u16-below s bytes (at
 pub u64-below : (s : List ℕ) → AreBytes s → (at : ℕ) → u64At s at < 2 ^ 64
 unfolding u64At
 u64-below s bytes at = omega (arith, u32-below s bytes at, u32-below s bytes (at + 4))
+
+-- a part of bytes is bytes
+take-bytes : (n : ℕ) (s : List ℕ) → AreBytes s → AreBytes (take n s)
+take-bytes zero s bytes i = omega arith
+take-bytes (suc n) [] bytes i = bytes i
+take-bytes (suc n) (x ∷ s) bytes zero = bytes 0
+take-bytes (suc n) (x ∷ s) bytes (suc i) = take-bytes n s (λ j. bytes (suc j)) i
+
+pub part-bytes : (s : List ℕ) (from count : ℕ) → AreBytes s → AreBytes (partOf s from count)
+part-bytes s from count bytes = take-bytes count (drop from s) (λ i. rw (getD-drop from s i 0) (bytes (from + i)))
 
 pub byte-from : (s : List ℕ) (at k : ℕ) → byteAt s (at + k) ≡ byteAt (drop at s) k
 byte-from s at k = sym (getD-drop at s k 0)

@@ -1,11 +1,12 @@
 -- How a dictionary order is found: by the first numbers that differ.
 use Prim.Native.Nat.{ℕ, _≤_, _<_}
-use mathlib.Core.Path.{_≡_, refl}
+use mathlib.Core.Path.{_≡_, refl, ap, _∙_}
 use mathlib.Core.Bool.{_&&_, _||_}
-use mathlib.Core.List.{List, [], _∷_}
+use mathlib.Core.List.{List, [], _∷_, _++_}
 use native.Mathlib.Omega.{arith}
 use borrow.Author.Tests.{ltb-true, ltb-false, lt-ltb, le-ltb, eq-eqb, ne-eqb}
 use lib.Dec.{ltb, eqb}
+use lib.ListN.{length}
 use Rattle.search.specs.Order.{orderOf}
 use Rattle.search.specs.InnerOrder.{andThen, listOrder, isBefore, isSame}
 use Rattle.search.specs.declared.order.Order.{Order}
@@ -59,3 +60,19 @@ module _ (x y : ℕ) where
         either-way (ltb x y)
         (λ l. let n = ltb-true x y l in rw (l, ne-eqb x y (λ e. omega arith)))
         (λ l. either-way (eqb x y) (λ e. rw (l, e)) (λ e. rw (l, e)))
+
+-- ---- the order of two lists, part by part
+
+then-then : (o p q : Order) → andThen o (andThen p q) ≡ andThen (andThen o p) q
+then-then Before p q = refl
+then-then Same p q = refl
+then-then After p q = refl
+
+pub order-joined : (xs ys us vs : List ℕ) → length xs ≡ length us
+    → listOrder (xs ++ ys) (us ++ vs) ≡ andThen (listOrder xs us) (listOrder ys vs)
+unfolding listOrder
+order-joined [] ys [] vs e = refl
+order-joined [] ys (u ∷ us) vs e = absurd (omega arith)
+order-joined (x ∷ xs) ys [] vs e = absurd (omega arith)
+order-joined (x ∷ xs) ys (u ∷ us) vs e =
+    ap (andThen (orderOf x u)) (order-joined xs ys us vs (omega arith)) ∙ then-then (orderOf x u) (listOrder xs us) (listOrder ys vs)

@@ -5,16 +5,16 @@ use Rattle.desk.proofs.account.line_outcome.Statement.{statement}
 use Rattle.desk.proofs.account.line_outcome.Tie as tie
 
 line-start-requires : tie.Need-line-start-requires
-line-start-requires c κs = c .before .before .pre .there .small
+line-start-requires c κs = c .before .before .before .pre .there .small
 
 reading-at-requires : tie.Need-reading-at-requires
-reading-at-requires c κs = rw (c .line-start .ensures .eq) (c .before .before .before .pre .there .lies)
+reading-at-requires c κs = rw (c .line-start .ensures .eq) (c .before .before .before .before .pre .there .lies)
 
 line-of-requires : tie.Need-line-of-requires
-line-of-requires c κs = (c .before .before .before .before .pre .there, c .reading-at .ensures ∙ rw (c .before .line-start .ensures .eq))
+line-of-requires c κs = (c .before .before .before .before .before .pre .there, c .reading-at .ensures ∙ rw (c .before .line-start .ensures .eq))
 
 account-requires : tie.Need-account-requires
-account-requires c κs = (c .before .before .before .before .before .pre .book, c .line-of .ensures .small)
+account-requires c κs = (c .before .before .before .before .before .before .pre .sources, c .line-of .ensures .small)
 
 returns : tie.Need-returns
 unfolding lineOutcome

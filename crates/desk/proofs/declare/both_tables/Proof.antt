@@ -3,27 +3,27 @@ use mathlib.Core.Path.{sym, _∙_}
 use native.Mathlib.Omega.{arith}
 use borrow.Author.Needs.{needs}
 use Rattle.desk.proofs.LawTable.{refusal, fillable}
-use Rattle.desk.proofs.LawDeclare.{showable, tables-shown, allows, both-refused}
+use Rattle.desk.proofs.LawDeclare.{showable, tables-shown, past-kept, allows, both-refused}
 use Rattle.desk.proofs.declare.both_tables.Statement.{statement}
 use Rattle.desk.proofs.declare.both_tables.Tie as tie
 
 fill-requires : tie.Need-fill-requires
 fill-requires c κs =
-    let ready = c .before .before .before .before .before .before .pre in
+    let ready = c .before .before .before .before .before .before .before .pre in
     let lines = c .before .line-count .ensures .eq in
-    fillable _ _ _ (ready .book) (ready .sheet) lines (omega (arith, ready .fits))
+    fillable _ _ _ (ready .sources) (ready .sheet) lines (omega (arith, ready .fits))
 
 show-requires : tie.Need-show-requires
 show-requires c κs =
-    let ready = c .before .before .before .before .before .before .before .before .before .before .before .before .before .before .pre in
+    let ready = c .before .before .before .before .before .before .before .before .before .before .before .before .before .before .before .pre in
     let lines = c .before .before .before .before .before .before .before .before .before .line-count .ensures .eq in
     let filled = rw lines at (c .before .before .before .before .before .before .before .fill .ensures) in
     let accepted = rw (c .before .before .before .enum-told .given .1) at (filled .table) in
-    showable _ (ready .book) (ready .sheet) _ _ _ _ lines (c .before .before .unit-of .ensures) accepted _ (omega (arith, ready .fits))
+    showable _ (ready .sources .book) (λ i. c .before .before .before .before .before .before .before .before .before .before .before .before .before .shared-slice-known2 .given i .fits) (ready .sheet) _ _ _ _ lines (c .before .before .unit-of .ensures) accepted _ (omega (arith, ready .fits))
 
 returns : tie.Need-returns
 returns c =
-    let ready = c .before .before .before .before .before .before .before .before .before .before .before .before .before .before .before .before .before .pre in
+    let ready = c .before .before .before .before .before .before .before .before .before .before .before .before .before .before .before .before .before .before .pre in
     let lines = c .before .before .before .before .before .before .before .before .before .before .before .before .line-count .ensures .eq in
     let filled = rw lines at (c .before .before .before .before .before .before .before .before .before .before .fill .ensures) in
     let told = c .before .before .before .before .before .before .enum-told .given .1 in
@@ -33,8 +33,9 @@ returns c =
     rw told
     (record {
       answer = sym told ∙ filled .answer;
-      tables = tables-shown _ (ready .book) (ready .sheet) _ _ _ _ lines unit accepted _ _ shown;
-      allowed = λ _. allows _ (ready .book) (ready .sheet) _ _ _ _ lines unit accepted _ _ shown;
+      tables = tables-shown _ (ready .sources .book) (λ i. c .before .before .before .before .before .before .before .before .before .before .before .before .before .before .before .before .shared-slice-known2 .given i .fits) (ready .sheet) _ _ _ _ lines unit accepted _ _ shown;
+      past = λ _. past-kept _ (ready .sources .book) (λ i. c .before .before .before .before .before .before .before .before .before .before .before .before .before .before .before .before .shared-slice-known2 .given i .fits) (ready .sheet) _ _ _ _ lines unit accepted _ _ shown;
+      allowed = λ _. allows _ (ready .sources .book) (λ i. c .before .before .before .before .before .before .before .before .before .before .before .before .before .before .before .before .shared-slice-known2 .given i .fits) (ready .sheet) _ _ _ _ lines unit accepted _ _ shown;
     })
 
 returns-2 : tie.Need-returns-2
@@ -45,6 +46,7 @@ returns-2 c =
       answer = filled .answer;
       tables = both-refused _ _ _ _ _ _ no (filled .table) (c .before .before .clear .ensures);
       allowed = λ accepted. absurd (no accepted);
+      past = λ accepted. absurd (no accepted);
     }
 
 pub both-tables-spec : {M : Type 1} → statement M

@@ -17,21 +17,22 @@ returns : tie.Need-returns
 unfolding lineOf
 returns c = record {
   eq = rw (
-    ← c .before .before .before .before .before .before .before .before .before .pre .1,
-    ← c .before .before .before .before .before .before .before .line-start .ensures .eq,
-    ← c .before .before .before .before .before .before .byte-in .ensures .eq,
-    ← c .before .before .before .before .before .byte-in2 .ensures .eq,
-    ← c .before .before .before .before .key-from .ensures .eq,
-    ← c .before .before .before .u16-in .ensures .eq,
-    ← c .before .before .u16-in2 .ensures .eq,
-    ← c .before .u64-in .ensures,
-    ← c .u64-in2 .ensures,
+    ← c .before .before .before .before .before .before .before .before .before .before .pre .1,
+    ← c .before .before .before .before .before .before .before .before .line-start .ensures .eq,
+    ← c .before .before .before .before .before .before .before .byte-in .ensures .eq,
+    ← c .before .before .before .before .before .before .byte-in2 .ensures .eq,
+    ← c .before .before .before .before .before .key-from .ensures .eq,
+    ← c .before .before .before .before .u16-in .ensures .eq,
+    ← c .before .before .before .u16-in2 .ensures .eq,
+    ← c .before .before .u64-in .ensures,
+    ← c .before .u64-in2 .ensures,
+    ← c .grades-at .ensures,
   );
-  small = c .before .before .before .before .key-from .ensures .small;
+  small = c .before .before .before .before .before .key-from .ensures .small;
 }
 
 pub line-of-spec : {M : Type 1} → statement M
 line-of-spec =
     tie.close
     (tie.spec line-start-requires (λ c κs. search needs) (λ c κs. search needs) key-from-requires (λ c κs. search needs)
-    (λ c κs. search needs) (λ c κs. search needs) (λ c κs. search needs) returns)
+    (λ c κs. search needs) (λ c κs. search needs) (λ c κs. search needs) (λ c κs. search needs) returns)

@@ -53,7 +53,7 @@ returns : tie.Need-returns Inv-loop μ-loop
 returns c =
     let below = rw (c .before .before .before .before .before .before .row-count .ensures .eq) at (c .before .before .before .loop-test .taken) in
     let stands = rw (c .before .before .before .before .loop .inv .1) at (sym (c .before .before .row-order .ensures) ∙ c .enum-told2 .given .1) in
-    record { eq = here _ (c .before .before .before .before .before .before .before .before .before .pre) _ _ below (c .before .before .before .before .loop .inv .0 .none) stands; below = omega arith }
+    record { eq = here _ (c .before .before .before .before .before .before .before .before .before .pre) _ _ below stands; below = omega arith }
 
 returns-2 : tie.Need-returns-2 Inv-loop μ-loop
 returns-2 c =

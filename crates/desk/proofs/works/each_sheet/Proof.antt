@@ -7,33 +7,34 @@ use borrow.Author.Needs.{needs}
 use denote.Ref.{now}
 use Rattle.bundle.specs.Bundle.{sheetCount}
 use Rattle.bundle.proofs.LawBundle.{exact-room, shown-room, outcomes-room, run-inside}
+use Rattle.desk.specs.Lent.{sources}
 use Rattle.desk.specs.Works.{results, FirstSheets}
 use Rattle.desk.proofs.LawWorks.{first-none, first-more}
 use Rattle.desk.proofs.works.each_sheet.Statement.{statement}
 use Rattle.desk.proofs.works.each_sheet.Tie as tie
 
 abbrev Inv-loop : tie.InvT-loop
-Inv-loop book bundle exact₀ shown₀ outcomes₀ good sheets i₀ exact shown outcomes i =
+Inv-loop book fugitive bundle exact₀ shown₀ outcomes₀ told sheets i₀ exact shown outcomes i =
     (i ≤ sheets)
     × (length exact ≡ length exact₀)
     × (length shown ≡ length shown₀)
     × (length outcomes ≡ length outcomes₀)
-    × FirstSheets i book bundle (results exact₀ shown₀ outcomes₀) (results exact shown outcomes)
+    × FirstSheets i (sources book fugitive) bundle (results exact₀ shown₀ outcomes₀) (results exact shown outcomes)
 
 abbrev μ-loop : tie.MeasureT-loop
-μ-loop book bundle exact₀ shown₀ outcomes₀ good sheets i₀ exact shown outcomes i = sheets - i
+μ-loop book fugitive bundle exact₀ shown₀ outcomes₀ told sheets i₀ exact shown outcomes i = sheets - i
 
 loop-holds : tie.Need-loop-holds Inv-loop μ-loop
 loop-holds c = (search needs, search needs, search needs, search needs, first-none _ _ _)
 
 declare-sheet-requires : tie.Need-declare-sheet-requires Inv-loop μ-loop
 declare-sheet-requires c κs =
-    let entry = c .before .before .before .before .before .before .before .before .before .before .before in
+    let entry = c .before .before .before .before .before .before .before .before .before .before .before .before in
     let loop = c .before .before .before .loop in
     let below = c .before .before .loop-test .taken in
     let inside = run-inside (now (entry .args .bundle)) (loop .i) (omega (arith, below, c .before .before .before .before .sheet-count .ensures .eq)) in
     record {
-      told = c .before .before .before .before .before .book-ok .ensures;
+      known = c .before .before .before .before .before .by-sources .ensures;
       exactRun = omega (arith, inside, exact-room _ _ _ _ (entry .pre), loop .inv .1);
       shownRun = omega (arith, inside, shown-room _ _ _ _ (entry .pre), loop .inv .2);
     }
@@ -43,7 +44,7 @@ slice-write-outcomes c =
     let loop = c .before .before .before .before .before .before .before .before .before .loop in
     let count = c .before .before .before .before .before .before .before .before .before .before .sheet-count .ensures .eq in
     let below = c .before .before .before .before .before .before .before .before .loop-test .taken in
-    let room = outcomes-room _ _ _ _ (c .before .before .before .before .before .before .before .before .before .before .before .before .before .before .before .before .before .pre) in
+    let room = outcomes-room _ _ _ _ (c .before .before .before .before .before .before .before .before .before .before .before .before .before .before .before .before .before .before .pre) in
     omega (arith, room, loop .inv .3, below, count)
 
 mul-outcomes : tie.Need-mul-outcomes Inv-loop μ-loop
@@ -54,7 +55,7 @@ mul-outcomes c =
 
 loop-again : tie.Need-loop-again Inv-loop μ-loop
 loop-again c =
-    let entry = c .before .before .before .before .before .before .before .before .before .before .before .before .before .before .before .before .before in
+    let entry = c .before .before .before .before .before .before .before .before .before .before .before .before .before .before .before .before .before .before in
     let loop = c .before .before .before .before .before .before .before .before .before .loop in
     let count = c .before .before .before .before .before .before .before .before .before .before .sheet-count .ensures .eq in
     let below = c .before .before .before .before .before .before .before .before .loop-test .taken in
@@ -75,7 +76,7 @@ loop-again c =
 returns : tie.Need-returns Inv-loop μ-loop
 returns c =
     let loop = c .before .loop in
-    let bundle = now (c .before .before .before .before .before .before .before .before .before .args .bundle) in
+    let bundle = now (c .before .before .before .before .before .before .before .before .before .before .args .bundle) in
     let all : loop .i ≡ sheetCount bundle = omega (arith, c .loop-test .left, loop .inv .0, c .before .before .sheet-count .ensures .eq) in
     rw all at (loop .inv .4)
 

@@ -16,5 +16,8 @@ add-t7 c = omega (arith, c .before .before .before .before .before .before .befo
 add-t8 : tie.Need-add-t8
 add-t8 c = omega (arith, c .before .before .before .before .before .before .before .before .before .pre 3 (omega arith))
 
+add-t9 : tie.Need-add-t9
+add-t9 c = omega (arith, c .before .before .before .before .before .before .before .before .before .before .before .pre 4 (omega arith))
+
 pub add-spec : {M : Type 1} → statement M
-add-spec = tie.close (tie.spec add-t5 add-t6 add-t7 add-t8 (λ c. search needs))
+add-spec = tie.close (tie.spec add-t5 add-t6 add-t7 add-t8 add-t9 (λ c. search needs))

@@ -1,10 +1,11 @@
 /*
- * Checkraven, the declaration desk: from a coefficient book and a sheet to
- * two tables, exact and shown.
+ * Checkraven, the declaration desk: from a coefficient book, a fugitive table
+ * and a sheet to two tables, exact and shown.
  *
- * A sheet is one works' year for one pollutant in one medium. A bundle has
- * several sheets for one call. A text sheet is a sheet typed in a spreadsheet
- * and saved as comma-separated text.
+ * A sheet is one works' year for one pollutant in one medium. The fugitive table
+ * has the factors of dust that never meets a duct. A bundle has several sheets
+ * for one call. A text sheet is a sheet typed in a spreadsheet and saved as
+ * comma-separated text.
  */
 #ifndef CHECKRAVEN_H
 #define CHECKRAVEN_H
@@ -20,13 +21,14 @@ extern "C" {
 #define CHECKRAVEN_ACCEPTED UINT64_C(0)
 
 /*
- * The refusal numbers. For a sheet 1 to 11 are looked for in this order; for a
- * text sheet 12 is looked for in the place of 2. For a whole bundle 16 is looked
- * for first, then 3, and no other.
+ * The refusal numbers. For a sheet they are looked for in the order 1, 13, 2, 3,
+ * then lines from 1 up, each in the order 4, 5, 15, 6, 14, 7 to 11; for a text
+ * sheet 12 is looked for in the place of 2. For a whole bundle 16 is looked for
+ * first, then 3, and no other.
  */
 #define CHECKRAVEN_BOOK_MALFORMED      1  /* book malformed or over a limit */
 #define CHECKRAVEN_SHEET_MALFORMED     2  /* sheet malformed, over a limit, or shown unit not 1 to 3 */
-#define CHECKRAVEN_RESULT_TOO_SHORT    3  /* either result shorter than 4 * (lines + 1), or too little room lent */
+#define CHECKRAVEN_RESULT_TOO_SHORT    3  /* either result shorter than 5 * (lines + 1), or too little room lent */
 #define CHECKRAVEN_ACTIVITY_TOO_LARGE  4  /* product or material above 10^9 kg */
 #define CHECKRAVEN_REUSE_TOO_LARGE     5  /* reuse above 1000, in any medium */
 #define CHECKRAVEN_NO_ROW              6  /* no row */
@@ -36,6 +38,9 @@ extern "C" {
 #define CHECKRAVEN_ZERO_DIVISOR       10  /* production hours, rated kW or energy run hours 0 as thousandths */
 #define CHECKRAVEN_K_ABOVE_ONE        11  /* energy above what the rating allows: k above 1 */
 #define CHECKRAVEN_TEXT_MALFORMED     12  /* text sheet malformed, over a limit, or shown unit not 1 to 3 */
+#define CHECKRAVEN_FUGITIVE_MALFORMED 13  /* fugitive table malformed or over a limit */
+#define CHECKRAVEN_NO_FUGITIVE_ENTRY  14  /* grade given and no entry in the fugitive table */
+#define CHECKRAVEN_BAD_GRADE          15  /* grade above 3, or given outside particulates in gas */
 #define CHECKRAVEN_BUNDLE_MALFORMED   16  /* bundle malformed or over a limit */
 
 /* Number and line of a refusal. The line counts from 1; 0 means a whole file. */
@@ -43,7 +48,7 @@ extern "C" {
 #define CHECKRAVEN_LINE(answer)   ((unsigned)((answer) % UINT64_C(65536)))
 
 /* Cells that each result needs for a sheet of that many lines. */
-#define CHECKRAVEN_CELLS(lines) (4 * ((size_t)(lines) + 1))
+#define CHECKRAVEN_CELLS(lines) (5 * ((size_t)(lines) + 1))
 
 /* Cells that are enough for every sheet: 128 lines and the row of sums. */
 #define CHECKRAVEN_MOST_CELLS CHECKRAVEN_CELLS(128)
@@ -52,48 +57,67 @@ extern "C" {
 #define CHECKRAVEN_MOST_SHEETS 16
 
 /* Bytes that are enough for the report of every sheet. */
-#define CHECKRAVEN_MOST_TEXT 28664
+#define CHECKRAVEN_MOST_TEXT 34082
 
 /* Bytes that are enough for the sheet of every text: 128 lines. */
 #define CHECKRAVEN_MOST_SHEET 8208
 
 /* Bytes that are enough for the text of every sheet: 26 for each field. */
-#define CHECKRAVEN_MOST_SHEET_TEXT 43342
+#define CHECKRAVEN_MOST_SHEET_TEXT 53326
+
+/* The fugitive table of a works without fugitive dust: no entries. */
+static const uint8_t checkraven_no_fugitive[12] = { 12, 0, 0, 0, 0, 0, 0, 0, 12, 0, 0, 0 };
 
 /*
- * Accounts for one sheet with one book.
+ * Accounts for one sheet with one book and one fugitive table.
  *
- * Lent for reading: the book (book_len bytes) and the sheet (sheet_len bytes).
- * They never change.
+ * Lent for reading: the book (book_len bytes), the fugitive table (fugitive_len
+ * bytes) and the sheet (sheet_len bytes). They never change.
  * Lent for writing: the results exact (exact_len cells) and shown (shown_len
  * cells). They overlap neither each other nor the files.
  * No pointer is null, also where its length is 0, and both results are aligned
  * as uint64_t. The files may stand at any address.
  *
- * The answer is 0 for an accepted sheet. The first 4 * (lines + 1) cells of
+ * A fugitive table has at most 65,536 bytes, little-endian: its length u32, the
+ * number of its entries u16 (at most 1,024), zero u16, the offset of its entries
+ * u32 (at least 12). An entry has 28 bytes, all u16: industry, product, material,
+ * process, scale, then nine factors in thousandths of kg/t: crushing and feeding
+ * good, middle, poor; tapping good, middle, poor; furnace spill good, middle,
+ * poor. Entries strictly rise by industry to scale, and end inside the length.
+ * What lies around them isn't looked at. A works without fugitive dust lends
+ * checkraven_no_fugitive.
+ *
+ * A line's grades are its bytes 56, 57 and 58: crushing and feeding, tapping,
+ * furnace spill; 0 absent, 1 good, 2 middle, 3 poor. Its fugitive amount F is the
+ * sum of the chosen factors times its product, from the entry for its scale, or
+ * else for scale 0; treatment takes nothing off it. A line without grades needs
+ * no entry, and its F is 0.
+ *
+ * The answer is 0 for an accepted sheet. The first 5 * (lines + 1) cells of
  * each result then hold its table, further cells keep their values. A row has
- * four cells: generated G, removed R, reused U, discharged D. There is one row
- * for each line and a last row of sums.
+ * five cells: generated G, removed R, reused U, discharged D, fugitive F. There
+ * is one row for each line and a last row of sums. In every row G = R + U + D + F.
  *   exact: in units of 10 micrograms (1 g = 10^5, 1 kg = 10^8, 1 t = 10^11).
  *   shown: in whole shown units of the sheet (gram, kilogram or tonne). Each
  *          cell is the exact one in that unit where that is whole, else one of
- *          the two whole numbers around it. In every row G = R + U + D, and in
- *          every column the last row is the sum of the rows above.
+ *          the two whole numbers around it. In every column the last row is
+ *          the sum of the rows above.
  *
  * Otherwise the answer is number * 65536 + line: the first refusal in the
- * order 1, 2, 3, then lines from 1 up, each in the order 4 to 11. All cells of
- * both results are then zero.
+ * order 1, 13, 2, 3, then lines from 1 up, each in the order 4, 5, 15, 6, 14,
+ * 7 to 11. All cells of both results are then zero.
  */
 uint64_t checkraven_account(const uint8_t *book, size_t book_len,
+                            const uint8_t *fugitive, size_t fugitive_len,
                             const uint8_t *sheet, size_t sheet_len,
                             uint64_t *exact, size_t exact_len,
                             uint64_t *shown, size_t shown_len);
 
 /*
- * Accounts for every sheet of a bundle with one book.
+ * Accounts for every sheet of a bundle with one book and one fugitive table.
  *
- * Lent for reading: the book (book_len bytes) and the bundle (bundle_len
- * bytes). They never change.
+ * Lent for reading: the book (book_len bytes), the fugitive table (fugitive_len
+ * bytes) and the bundle (bundle_len bytes). They never change.
  * Lent for writing: the results exact (exact_len cells) and shown (shown_len
  * cells), and outcomes (outcomes_len cells). They overlap neither each other
  * nor the files.
@@ -112,29 +136,31 @@ uint64_t checkraven_account(const uint8_t *book, size_t book_len,
  * what checkraven_account leaves and answers for that sheet alone, with the
  * two runs lent to it: a refused sheet's runs are zero, and no other's. Cells
  * past all runs keep their values, and so do outcomes past the number of
- * sheets. A bad book is refused for each sheet; a bundle without sheets is
- * taken with any book and changes nothing.
+ * sheets. A bad book is refused for each sheet, and so is a bad fugitive table; a
+ * bundle without sheets is taken with any of them and changes nothing.
  *
  * Otherwise the answer is number * 65536, and all cells of exact, shown and
  * outcomes are zero:
  *   CHECKRAVEN_BUNDLE_MALFORMED: the bundle isn't as above.
  *   CHECKRAVEN_RESULT_TOO_SHORT: either result has fewer than sheets * cells
  *                                per sheet, or outcomes fewer than sheets.
- * They are looked for in this order, before the book and before any sheet.
+ * They are looked for in this order, before the book, the fugitive table and any
+ * sheet.
  */
 uint64_t checkraven_account_bundle(const uint8_t *book, size_t book_len,
+                                   const uint8_t *fugitive, size_t fugitive_len,
                                    const uint8_t *bundle, size_t bundle_len,
                                    uint64_t *exact, size_t exact_len,
                                    uint64_t *shown, size_t shown_len,
                                    uint64_t *outcomes, size_t outcomes_len);
 
 /*
- * Writes the report of one sheet with one book: the text that the program
- * prints.
+ * Writes the report of one sheet with one book and one fugitive table: the text
+ * that the program prints.
  *
- * Lent for reading: the book (book_len bytes) and the sheet (sheet_len bytes).
- * They never change.
- * Lent for writing: the text (text_len bytes). It overlaps neither file.
+ * Lent for reading: the book (book_len bytes), the fugitive table (fugitive_len
+ * bytes) and the sheet (sheet_len bytes). They never change.
+ * Lent for writing: the text (text_len bytes). It overlaps no file.
  * No pointer is null, also where its length is 0. The files and the text may
  * stand at any address.
  *
@@ -142,7 +168,7 @@ uint64_t checkraven_account_bundle(const uint8_t *book, size_t book_len,
  * a refusal alike. The text then begins with them, further bytes keep their
  * values, and no zero byte ends them. They are ASCII, each line ends in '\n':
  *   figures: the exact rows, 'unit' with W, the shown rows. A row is 'exact' or
- *            'shown', the line's number or 'total', then G, R, U, D.
+ *            'shown', the line's number or 'total', then G, R, U, D, F.
  *   refusal: 'refused N line L', with the number and the line that
  *            checkraven_account answers where both results have room.
  *
@@ -150,6 +176,7 @@ uint64_t checkraven_account_bundle(const uint8_t *book, size_t book_len,
  * CHECKRAVEN_RESULT_TOO_SHORT * 65536, and all bytes of the text are zero.
  */
 uint64_t checkraven_report(const uint8_t *book, size_t book_len,
+                           const uint8_t *fugitive, size_t fugitive_len,
                            const uint8_t *sheet, size_t sheet_len,
                            uint8_t *text, size_t text_len);
 
@@ -164,10 +191,11 @@ uint64_t checkraven_report(const uint8_t *book, size_t book_len,
  * A text has at most 65,536 bytes. By RFC 4180 commas stand between fields and
  * records end in CR LF, which the last one need not have; a field may stand in
  * double quotes. The first record has three fields: medium, pollutant, shown
- * unit. Then comes one record for each line, at most 128, with 13 fields in the
+ * unit. Then comes one record for each line, at most 128, with 16 fields in the
  * order of the binary ones: industry, product, material, process, scale,
  * technique, reuse, kind, product in kilograms, material in kilograms, the
- * readings a, b and c.
+ * readings a, b and c, the grades of crushing, tapping and spill. Grades that are
+ * left off at a record's end, with their commas, count as 0.
  *   numeral: 1 to 20 digits, a number that fits the binary field; leading
  *            zeros are fine, no sign, no space.
  *   reading: 1 to 11 digits, with or without a point and 1 to 3 more.
@@ -199,10 +227,10 @@ uint64_t checkraven_sheet_from_text(const uint8_t *text, size_t text_len,
  * The answer is the number of bytes written, below 65536. The text then begins
  * with them, further bytes keep their values, and no zero byte ends them. They
  * are ASCII, and records and fields as checkraven_sheet_from_text takes them:
- * every record ends in CR LF, no field stands in quotes, no number has needless
- * leading zeros, and a reading has three places. One that the kind doesn't use,
- * and each one with technique 0, is written 0. What was written and read again
- * has the same answer and the same tables.
+ * every line has its 16 fields, every record ends in CR LF, no field stands in
+ * quotes, no number has needless leading zeros, and a reading has three places.
+ * One that the kind doesn't use, and each one with technique 0, is written 0. What
+ * was written and read again has the same answer and the same tables.
  *
  * Otherwise the answer is number * 65536 + line, and all bytes of the text are
  * zero:
@@ -216,14 +244,15 @@ uint64_t checkraven_text_from_sheet(const uint8_t *sheet, size_t sheet_len,
                                     uint8_t *text, size_t text_len);
 
 /*
- * Accounts for one text sheet with one book.
+ * Accounts for one text sheet with one book and one fugitive table.
  *
  * All is as with checkraven_account for the sheet that
  * checkraven_sheet_from_text writes for the text, with 12 in the place of 2: the
- * first refusal is the first in the order 1, 12, 3, then lines from 1 up, each
- * in the order 4 to 11.
+ * first refusal is the first in the order 1, 13, 12, 3, then lines from 1 up,
+ * each in the order 4, 5, 15, 6, 14, 7 to 11.
  */
 uint64_t checkraven_account_text(const uint8_t *book, size_t book_len,
+                                 const uint8_t *fugitive, size_t fugitive_len,
                                  const uint8_t *text, size_t text_len,
                                  uint64_t *exact, size_t exact_len,
                                  uint64_t *shown, size_t shown_len);

@@ -29,12 +29,13 @@ static void print_refusal(uint64_t answer)
 static void print_table(const char *name, const uint64_t *cells, unsigned lines)
 {
     for (unsigned row = 0; row <= lines; row++) {
-        const uint64_t *c = cells + 4 * row;
+        const uint64_t *c = cells + 5 * row;
         if (row < lines)
             printf("%s %u", name, row + 1);
         else
             printf("%s total", name);
-        printf(" %" PRIu64 " %" PRIu64 " %" PRIu64 " %" PRIu64 "\n", c[0], c[1], c[2], c[3]);
+        printf(" %" PRIu64 " %" PRIu64 " %" PRIu64 " %" PRIu64 " %" PRIu64 "\n",
+               c[0], c[1], c[2], c[3], c[4]);
     }
 }
 

@@ -1,4 +1,4 @@
-//! Accounts for one sheet: `cargo run --example one_sheet -- BOOK SHEET`.
+//! Accounts for one sheet: `cargo run --example one_sheet -- BOOK FUGITIVE SHEET`.
 //! Without file names it takes document 000's case from the examples folder.
 
 use checkraven::{declare, Row};
@@ -8,9 +8,10 @@ fn main() {
     let mut words = std::env::args().skip(1);
     let mut file = |name: &str| words.next().unwrap_or_else(|| format!("{case}/{name}"));
     let book = std::fs::read(file("book.bin")).unwrap_or_default();
+    let fugitive = std::fs::read(file("fugitive.bin")).unwrap_or_default();
     let sheet = std::fs::read(file("sheet.bin")).unwrap_or_default();
 
-    match declare(&book, &sheet) {
+    match declare(&book, &fugitive, &sheet) {
         Ok(tables) => {
             for line in tables.lines() {
                 print(&format!("line {}", line.number), line.exact, line.shown);
@@ -23,7 +24,7 @@ fn main() {
 
 fn print(name: &str, exact: Row, shown: Row) {
     for (table, row) in [("exact", exact), ("shown", shown)] {
-        let Row { generated, removed, reused, discharged } = row;
-        println!("{name} {table}: G {generated} R {removed} U {reused} D {discharged}");
+        let Row { generated: g, removed: r, reused: u, discharged: d, fugitive: f } = row;
+        println!("{name} {table}: G {g} R {r} U {u} D {d} F {f}");
     }
 }

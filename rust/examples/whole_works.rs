@@ -1,4 +1,5 @@
-//! Accounts for a bundle of sheets: `cargo run --example whole_works -- BOOK BUNDLE`.
+//! Accounts for a bundle of sheets:
+//! `cargo run --example whole_works -- BOOK FUGITIVE BUNDLE`.
 //! Without file names it takes a works' case from the examples folder.
 
 use checkraven::declare_bundle;
@@ -8,9 +9,10 @@ fn main() {
     let mut words = std::env::args().skip(1);
     let mut file = |name: &str| words.next().unwrap_or_else(|| format!("{case}/{name}"));
     let book = std::fs::read(file("book.bin")).unwrap_or_default();
+    let fugitive = std::fs::read(file("fugitive.bin")).unwrap_or_default();
     let bundle = std::fs::read(file("bundle.bin")).unwrap_or_default();
 
-    match declare_bundle(&book, &bundle) {
+    match declare_bundle(&book, &fugitive, &bundle) {
         Ok(works) => print!("{works}"),
         Err(refused) => println!("{refused}: {}", refused.refusal),
     }

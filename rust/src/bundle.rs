@@ -1,4 +1,5 @@
-//! A whole works in one call: a bundle of sheets, accounted for with one book.
+//! A whole works in one call: a bundle of sheets, accounted for with one book and
+//! one fugitive table.
 
 use crate::{desk, Outcome, Refused, Tables, MOST_CELLS};
 use std::fmt;
@@ -7,7 +8,8 @@ use std::ops::Range;
 /// The most sheets in a bundle.
 pub const MOST_SHEETS: usize = 16;
 
-/// Accounts for every sheet of a bundle with one book, in memory of the caller.
+/// Accounts for every sheet of a bundle with one book and one fugitive table, in
+/// memory of the caller.
 ///
 /// If the bundle is taken, sheet `i` owns the `i`-th run of the bundle's cells
 /// per sheet in each result. Its runs are then what [`account`](crate::account)
@@ -17,29 +19,31 @@ pub const MOST_SHEETS: usize = 16;
 /// sheets, keep their values.
 ///
 /// A malformed bundle, and then one whose runs or outcomes have no room, is
-/// refused as a whole, before the book and the sheets are looked at. All cells
-/// of both results and all outcomes are zero then.
+/// refused as a whole, before the book, the fugitive table and the sheets are
+/// looked at. All cells of both results and all outcomes are zero then.
 pub fn account_bundle(
     book: &[u8],
+    fugitive: &[u8],
     bundle: &[u8],
     exact: &mut [u64],
     shown: &mut [u64],
     outcomes: &mut [u64],
 ) -> Outcome {
-    Outcome::from_answer(desk::account_bundle(book, bundle, exact, shown, outcomes))
+    Outcome::from_answer(desk::account_bundle(book, fugitive, bundle, exact, shown, outcomes))
 }
 
-/// Accounts for every sheet of a bundle with one book: what [`declare`] gives
-/// for each of them, or the refusal of the whole bundle. A sheet for which the
-/// bundle's cells per sheet are too few is refused with 3.
+/// Accounts for every sheet of a bundle with one book and one fugitive table:
+/// what [`declare`] gives for each of them, or the refusal of the whole bundle. A
+/// sheet for which the bundle's cells per sheet are too few is refused with 3.
 ///
 /// It lends as much as 16 sheets of 128 lines need. A bundle that states more
 /// cells in all is refused with 3.
 ///
 /// ```
 /// let book = std::fs::read("../examples/works-001/book.bin")?;
+/// let fugitive = std::fs::read("../examples/works-001/fugitive.bin")?;
 /// let bundle = std::fs::read("../examples/works-001/bundle.bin")?;
-/// let works = checkraven::declare_bundle(&book, &bundle)?;
+/// let works = checkraven::declare_bundle(&book, &fugitive, &bundle)?;
 /// for sheet in works.sheets() {
 ///     match sheet {
 ///         Ok(tables) => println!("{} discharged", tables.total().shown.discharged),
@@ -50,11 +54,11 @@ pub fn account_bundle(
 /// ```
 ///
 /// [`declare`]: crate::declare
-pub fn declare_bundle(book: &[u8], bundle: &[u8]) -> Result<Works, Refused> {
+pub fn declare_bundle(book: &[u8], fugitive: &[u8], bundle: &[u8]) -> Result<Works, Refused> {
     let most = MOST_SHEETS * MOST_CELLS;
     let (mut exact, mut shown) = (vec![0; most], vec![0; most]);
     let mut outcomes = [0; MOST_SHEETS];
-    account_bundle(book, bundle, &mut exact, &mut shown, &mut outcomes).accepted()?;
+    account_bundle(book, fugitive, bundle, &mut exact, &mut shown, &mut outcomes).accepted()?;
     let tables = |(outcome, (sheet, run)): (&u64, (&[u8], Range<usize>))| {
         Outcome::from_answer(*outcome).accepted()?;
         Ok(Tables::new(sheet, exact[run.clone()].to_vec(), shown[run].to_vec()))

@@ -4,6 +4,8 @@ extern "C" {
     fn checkraven_account(
         book: *const u8,
         book_len: usize,
+        fugitive: *const u8,
+        fugitive_len: usize,
         sheet: *const u8,
         sheet_len: usize,
         exact: *mut u64,
@@ -15,6 +17,8 @@ extern "C" {
     fn checkraven_account_bundle(
         book: *const u8,
         book_len: usize,
+        fugitive: *const u8,
+        fugitive_len: usize,
         bundle: *const u8,
         bundle_len: usize,
         exact: *mut u64,
@@ -28,6 +32,8 @@ extern "C" {
     fn checkraven_report(
         book: *const u8,
         book_len: usize,
+        fugitive: *const u8,
+        fugitive_len: usize,
         sheet: *const u8,
         sheet_len: usize,
         text: *mut u8,
@@ -51,6 +57,8 @@ extern "C" {
     fn checkraven_account_text(
         book: *const u8,
         book_len: usize,
+        fugitive: *const u8,
+        fugitive_len: usize,
         text: *const u8,
         text_len: usize,
         exact: *mut u64,
@@ -60,7 +68,13 @@ extern "C" {
     ) -> u64;
 }
 
-pub(crate) fn account(book: &[u8], sheet: &[u8], exact: &mut [u64], shown: &mut [u64]) -> u64 {
+pub(crate) fn account(
+    book: &[u8],
+    fugitive: &[u8],
+    sheet: &[u8],
+    exact: &mut [u64],
+    shown: &mut [u64],
+) -> u64 {
     // SAFETY: the header asks that each pointer stands for so many cells, that
     // none is null, and that the results are aligned and overlap nothing. A
     // slice's pointer and length are just that, also when it is empty, and two
@@ -70,6 +84,8 @@ pub(crate) fn account(book: &[u8], sheet: &[u8], exact: &mut [u64], shown: &mut 
         checkraven_account(
             book.as_ptr(),
             book.len(),
+            fugitive.as_ptr(),
+            fugitive.len(),
             sheet.as_ptr(),
             sheet.len(),
             exact.as_mut_ptr(),
@@ -82,6 +98,7 @@ pub(crate) fn account(book: &[u8], sheet: &[u8], exact: &mut [u64], shown: &mut 
 
 pub(crate) fn account_bundle(
     book: &[u8],
+    fugitive: &[u8],
     bundle: &[u8],
     exact: &mut [u64],
     shown: &mut [u64],
@@ -92,6 +109,8 @@ pub(crate) fn account_bundle(
         checkraven_account_bundle(
             book.as_ptr(),
             book.len(),
+            fugitive.as_ptr(),
+            fugitive.len(),
             bundle.as_ptr(),
             bundle.len(),
             exact.as_mut_ptr(),
@@ -104,13 +123,15 @@ pub(crate) fn account_bundle(
     }
 }
 
-pub(crate) fn report(book: &[u8], sheet: &[u8], text: &mut [u8]) -> u64 {
+pub(crate) fn report(book: &[u8], fugitive: &[u8], sheet: &[u8], text: &mut [u8]) -> u64 {
     // SAFETY: as above. The text is a `&mut` slice of bytes, which need not be
-    // aligned, and overlaps neither file.
+    // aligned, and overlaps no file.
     unsafe {
         checkraven_report(
             book.as_ptr(),
             book.len(),
+            fugitive.as_ptr(),
+            fugitive.len(),
             sheet.as_ptr(),
             sheet.len(),
             text.as_mut_ptr(),
@@ -134,12 +155,20 @@ pub(crate) fn text_from_sheet(sheet: &[u8], text: &mut [u8]) -> u64 {
     }
 }
 
-pub(crate) fn account_text(book: &[u8], text: &[u8], exact: &mut [u64], shown: &mut [u64]) -> u64 {
+pub(crate) fn account_text(
+    book: &[u8],
+    fugitive: &[u8],
+    text: &[u8],
+    exact: &mut [u64],
+    shown: &mut [u64],
+) -> u64 {
     // SAFETY: as for `account`.
     unsafe {
         checkraven_account_text(
             book.as_ptr(),
             book.len(),
+            fugitive.as_ptr(),
+            fugitive.len(),
             text.as_ptr(),
             text.len(),
             exact.as_mut_ptr(),

@@ -1,14 +1,17 @@
-//! The declaration desk Checkraven: from a coefficient book and a sheet to two
-//! tables, exact and shown.
+//! The declaration desk Checkraven: from a coefficient book, a fugitive table and
+//! a sheet to two tables, exact and shown.
 //!
-//! A sheet is one works' year for one pollutant in one medium. The desk itself
-//! is proved; this crate lends it memory and names its answer. [`declare`]
-//! lends memory of its own and gives rows; [`account`] takes the caller's.
-//! [`declare_bundle`] and [`account_bundle`] do the same for a bundle of up to
-//! 16 sheets, [`declare_text`] and [`account_text`] for a sheet that is saved as
-//! comma-separated text. [`sheet_from_text`] and [`text_from_sheet`] turn such a
-//! text into a sheet and back. [`report`] gives the text that the program prints
-//! for a sheet.
+//! A sheet is one works' year for one pollutant in one medium. The fugitive table
+//! has the factors of dust that never meets a duct; a works without such dust
+//! lends [`NO_FUGITIVE`].
+//!
+//! The desk itself is proved; this crate lends it memory and names its answer.
+//! [`declare`] lends memory of its own and gives rows; [`account`] takes the
+//! caller's. [`declare_bundle`] and [`account_bundle`] do the same for a bundle of
+//! up to 16 sheets, [`declare_text`] and [`account_text`] for a sheet that is
+//! saved as comma-separated text. [`sheet_from_text`] and [`text_from_sheet`] turn
+//! such a text into a sheet and back. [`report`] gives the text that the program
+//! prints for a sheet.
 
 use std::fmt;
 
@@ -32,8 +35,11 @@ pub const MOST_LINES: usize = 128;
 /// Cells that are enough for the result of every sheet.
 pub const MOST_CELLS: usize = cells_for(MOST_LINES);
 
-/// Cells that each result needs for a sheet of so many lines: four a line
-/// (generated, removed, reused, discharged) and a last row of sums.
+/// The fugitive table of a works without fugitive dust: no entries.
+pub const NO_FUGITIVE: [u8; 12] = [12, 0, 0, 0, 0, 0, 0, 0, 12, 0, 0, 0];
+
+/// Cells that each result needs for a sheet of so many lines: five a line
+/// (generated, removed, reused, discharged, fugitive) and a last row of sums.
 pub const fn cells_for(lines: usize) -> usize {
     tables::COLUMNS * (lines + 1)
 }
@@ -91,20 +97,28 @@ impl fmt::Display for Outcome {
     }
 }
 
-/// Accounts for one sheet with one book, in memory of the caller.
+/// Accounts for one sheet with one book and one fugitive table, in memory of the
+/// caller.
 ///
 /// If the sheet is accepted, the first `cells_for(lines)` cells of each result
 /// hold its table and further cells keep their values. The exact table counts
 /// in units of 10 micrograms, the shown one in the sheet's whole grams,
 /// kilograms or tonnes. On refusal all cells of both results are zero.
-pub fn account(book: &[u8], sheet: &[u8], exact: &mut [u64], shown: &mut [u64]) -> Outcome {
-    Outcome::from_answer(desk::account(book, sheet, exact, shown))
+pub fn account(
+    book: &[u8],
+    fugitive: &[u8],
+    sheet: &[u8],
+    exact: &mut [u64],
+    shown: &mut [u64],
+) -> Outcome {
+    Outcome::from_answer(desk::account(book, fugitive, sheet, exact, shown))
 }
 
-/// Accounts for one sheet with one book: both tables by rows, or the refusal.
-pub fn declare(book: &[u8], sheet: &[u8]) -> Result<Tables, Refused> {
+/// Accounts for one sheet with one book and one fugitive table: both tables by
+/// rows, or the refusal.
+pub fn declare(book: &[u8], fugitive: &[u8], sheet: &[u8]) -> Result<Tables, Refused> {
     let (mut exact, mut shown) = (vec![0; MOST_CELLS], vec![0; MOST_CELLS]);
-    account(book, sheet, &mut exact, &mut shown).accepted()?;
+    account(book, fugitive, sheet, &mut exact, &mut shown).accepted()?;
     Ok(Tables::new(sheet, exact, shown))
 }
 

@@ -19,6 +19,9 @@ pub enum Refusal {
     ZeroDivisor,
     KAboveOne,
     TextMalformed,
+    FugitiveMalformed,
+    NoFugitiveEntry,
+    BadGrade,
     BundleMalformed,
     /// A number that this crate has no name for: the library is newer than it.
     Unnamed(u32),
@@ -26,10 +29,11 @@ pub enum Refusal {
 
 impl Refusal {
     /// All that have names, by their numbers. Those of a sheet are looked for in
-    /// this order; of a text sheet `TextMalformed` is looked for in the place of
-    /// `SheetMalformed`, and of a whole bundle `BundleMalformed` comes before
-    /// `ResultTooShort`.
-    pub const NAMED: [Refusal; 13] = [
+    /// this order, but that `FugitiveMalformed` comes after `BookMalformed`,
+    /// `BadGrade` after `ReuseTooLarge` and `NoFugitiveEntry` after `NoRow`; of a
+    /// text sheet `TextMalformed` is looked for in the place of `SheetMalformed`,
+    /// and of a whole bundle `BundleMalformed` comes before `ResultTooShort`.
+    pub const NAMED: [Refusal; 16] = [
         Refusal::BookMalformed,
         Refusal::SheetMalformed,
         Refusal::ResultTooShort,
@@ -42,6 +46,9 @@ impl Refusal {
         Refusal::ZeroDivisor,
         Refusal::KAboveOne,
         Refusal::TextMalformed,
+        Refusal::FugitiveMalformed,
+        Refusal::NoFugitiveEntry,
+        Refusal::BadGrade,
         Refusal::BundleMalformed,
     ];
 
@@ -62,7 +69,7 @@ impl Refusal {
                 (2, "sheet malformed, over a limit, or shown unit not 1 to 3")
             }
             Refusal::ResultTooShort => {
-                (3, "either result shorter than 4 × (lines + 1), or too little room lent")
+                (3, "either result shorter than 5 × (lines + 1), or too little room lent")
             }
             Refusal::ActivityTooLarge => (4, "product or material above 10^9 kg"),
             Refusal::ReuseTooLarge => (5, "reuse above 1000, in any medium"),
@@ -77,6 +84,9 @@ impl Refusal {
             Refusal::TextMalformed => {
                 (12, "text sheet malformed, over a limit, or shown unit not 1 to 3")
             }
+            Refusal::FugitiveMalformed => (13, "fugitive table malformed or over a limit"),
+            Refusal::NoFugitiveEntry => (14, "grade given and no entry in the fugitive table"),
+            Refusal::BadGrade => (15, "grade above 3, or given outside particulates in gas"),
             Refusal::BundleMalformed => (16, "bundle malformed or over a limit"),
             Refusal::Unnamed(number) => (number, "a refusal that has no name here"),
         }
@@ -112,13 +122,13 @@ mod tests {
     #[test]
     fn names_and_numbers_lead_to_each_other() {
         let numbers = Refusal::NAMED.map(Refusal::number);
-        assert_eq!(numbers, [1, 2, 3, 4, 5, 6, 7, 8, 9, 10, 11, 12, 16]);
+        assert!(numbers.into_iter().eq(1..=16));
         assert_eq!(numbers.map(Refusal::from_number), Refusal::NAMED);
     }
 
     #[test]
     fn a_number_without_a_name_is_kept() {
-        for number in [0, 13, 15, 17, 23, u32::MAX] {
+        for number in [0, 17, 18, 23, u32::MAX] {
             assert_eq!(Refusal::from_number(number), Refusal::Unnamed(number));
             assert_eq!(Refusal::from_number(number).number(), number);
         }

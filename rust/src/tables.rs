@@ -3,15 +3,18 @@
 use std::fmt;
 
 /// Cells of a row.
-pub(crate) const COLUMNS: usize = 4;
+pub(crate) const COLUMNS: usize = 5;
 
 /// The amounts of one line, or their sums.
 #[derive(Clone, Copy, Debug, Default, PartialEq, Eq, Hash)]
 pub struct Row {
+    /// All that the others come to.
     pub generated: u64,
     pub removed: u64,
     pub reused: u64,
     pub discharged: u64,
+    /// Dust that never meets a duct, untouched by treatment.
+    pub fugitive: u64,
 }
 
 /// One line of the sheet in both tables.
@@ -109,13 +112,20 @@ impl Tables {
 
 impl Row {
     fn from_cells(cells: &[u64]) -> Self {
-        Row { generated: cells[0], removed: cells[1], reused: cells[2], discharged: cells[3] }
+        Row {
+            generated: cells[0],
+            removed: cells[1],
+            reused: cells[2],
+            discharged: cells[3],
+            fugitive: cells[4],
+        }
     }
 }
 
 impl fmt::Display for Row {
     fn fmt(&self, out: &mut fmt::Formatter<'_>) -> fmt::Result {
-        write!(out, "{} {} {} {}", self.generated, self.removed, self.reused, self.discharged)
+        let Row { generated, removed, reused, discharged, fugitive } = self;
+        write!(out, "{generated} {removed} {reused} {discharged} {fugitive}")
     }
 }
 

@@ -1,7 +1,7 @@
 //! Bundles: small ones in lent slices, and the example folders by their tables.
 
 use checkraven::{account_bundle, declare, declare_bundle, Outcome, Refusal, Refused};
-use checkraven::{Works, MOST_CELLS, MOST_SHEETS};
+use checkraven::{Works, MOST_CELLS, MOST_SHEETS, NO_FUGITIVE};
 use std::fs;
 use std::path::{Path, PathBuf};
 
@@ -29,16 +29,34 @@ fn file(folder: &str, name: &str) -> Vec<u8> {
     fs::read(examples().join(folder).join(name)).expect("the example is there")
 }
 
+fn lend(
+    fugitive: &[u8],
+    bundle: &[u8],
+    exact: &mut [u64],
+    shown: &mut [u64],
+    outcomes: &mut [u64],
+) -> Outcome {
+    account_bundle(&BOOK_WITHOUT_ROWS, fugitive, bundle, exact, shown, outcomes)
+}
+
 #[test]
 fn each_sheet_has_its_runs_and_its_outcome() {
+    let bundle = bundle(6, &[&SHEET_WITHOUT_LINES, &[]]);
+    let (mut exact, mut shown, mut outcomes) = ([7; 13], [8; 12], [9; 3]);
+    let outcome = lend(&NO_FUGITIVE, &bundle, &mut exact, &mut shown, &mut outcomes);
+    assert!(outcome.is_accepted());
+    assert_eq!(exact, [0, 0, 0, 0, 0, 7, 0, 0, 0, 0, 0, 0, 7]);
+    assert_eq!(shown, [0, 0, 0, 0, 0, 8, 0, 0, 0, 0, 0, 0]);
+    assert_eq!(outcomes, [0, 2 * 65_536, 9]);
+}
+
+#[test]
+fn a_bad_fugitive_table_is_refused_for_each_sheet() {
     let bundle = bundle(5, &[&SHEET_WITHOUT_LINES, &[]]);
     let (mut exact, mut shown, mut outcomes) = ([7; 11], [8; 10], [9; 3]);
-    let outcome =
-        account_bundle(&BOOK_WITHOUT_ROWS, &bundle, &mut exact, &mut shown, &mut outcomes);
-    assert!(outcome.is_accepted());
-    assert_eq!(exact, [0, 0, 0, 0, 7, 0, 0, 0, 0, 0, 7]);
-    assert_eq!(shown, [0, 0, 0, 0, 8, 0, 0, 0, 0, 0]);
-    assert_eq!(outcomes, [0, 2 * 65_536, 9]);
+    assert!(lend(&[], &bundle, &mut exact, &mut shown, &mut outcomes).is_accepted());
+    assert_eq!(exact, [0, 0, 0, 0, 0, 0, 0, 0, 0, 0, 7]);
+    assert_eq!((shown, outcomes), ([0; 10], [13 * 65_536, 13 * 65_536, 9]));
 }
 
 #[test]
@@ -46,8 +64,7 @@ fn a_refused_bundle_leaves_zeros() {
     for (cells, bytes, number) in [(4, 0, 16), (5, 36, 3)] {
         let bundle = &bundle(cells, &[&SHEET_WITHOUT_LINES])[..bytes];
         let (mut exact, mut shown, mut outcomes) = ([7; 5], [8; 4], [9; 2]);
-        let outcome =
-            account_bundle(&BOOK_WITHOUT_ROWS, bundle, &mut exact, &mut shown, &mut outcomes);
+        let outcome = lend(&NO_FUGITIVE, bundle, &mut exact, &mut shown, &mut outcomes);
         assert_eq!(outcome, Outcome::Refused { number, line: 0 });
         assert_eq!((exact, shown, outcomes), ([0; 5], [0; 4], [0; 2]));
     }
@@ -58,8 +75,10 @@ fn sheets_come_by_their_tables_and_refusals() {
     let (book, sheet) = (file("document-000", "book.bin"), file("document-000", "sheet.bin"));
     let mut unknown = sheet.clone();
     unknown[16] ^= 1; // the industry of line 1
-    let works = declare_bundle(&book, &bundle(9, &[&sheet, &unknown, &[], &sheet])).unwrap();
-    let expected = [&sheet[..], &unknown, &[], &sheet].map(|sheet| declare(&book, sheet));
+    let bundle = bundle(11, &[&sheet, &unknown, &[], &sheet]);
+    let works = declare_bundle(&book, &NO_FUGITIVE, &bundle).unwrap();
+    let alone = |sheet| declare(&book, &NO_FUGITIVE, sheet);
+    let expected = [&sheet[..], &unknown, &[], &sheet].map(alone);
     assert_eq!(works.sheets(), expected);
     let refused = |sheet: usize| works.sheets()[sheet].as_ref().unwrap_err().to_string();
     assert_eq!((refused(1), refused(2)), ("refused 6 line 1".into(), "refused 2 line 0".into()));
@@ -68,7 +87,7 @@ fn sheets_come_by_their_tables_and_refusals() {
 #[test]
 fn a_bundle_may_state_as_many_cells_as_are_lent() {
     let book = BOOK_WITHOUT_ROWS;
-    let declared = |cells, sheets| declare_bundle(&book, &bundle(cells, sheets));
+    let declared = |cells, sheets| declare_bundle(&book, &NO_FUGITIVE, &bundle(cells, sheets));
     let sheets = [&SHEET_WITHOUT_LINES[..]; MOST_SHEETS];
     let refused = |refusal| Err(Refused { refusal, line: 0 });
     let accepted =
@@ -77,7 +96,7 @@ fn a_bundle_may_state_as_many_cells_as_are_lent() {
     assert_eq!(declared(MOST_CELLS + 1, &sheets), refused(Refusal::ResultTooShort));
     assert!(accepted(declared(MOST_SHEETS * MOST_CELLS, &sheets[..1])));
     assert_eq!(declared(u32::MAX as usize, &sheets[..1]), refused(Refusal::ResultTooShort));
-    assert_eq!(declare_bundle(&book, &[]), refused(Refusal::BundleMalformed));
+    assert_eq!(declare_bundle(&book, &NO_FUGITIVE, &[]), refused(Refusal::BundleMalformed));
     assert!(declared(u32::MAX as usize, &[]).unwrap().sheets().is_empty());
 }
 
@@ -89,7 +108,8 @@ fn every_example_of_a_bundle_prints_as_the_program_prints_it() {
     assert!(!folders.is_empty(), "an example of a bundle is there");
     for folder in folders {
         let read = |name| fs::read(folder.join(name)).unwrap();
-        let printed = match declare_bundle(&read("book.bin"), &read("bundle.bin")) {
+        let [book, fugitive, bundle] = ["book.bin", "fugitive.bin", "bundle.bin"].map(read);
+        let printed = match declare_bundle(&book, &fugitive, &bundle) {
             Ok(works) => works.to_string(),
             Err(refused) => format!("{refused}\n"),
         };

@@ -1,13 +1,17 @@
-//! The refusals here and in the C header: the same names, numbers and words.
+//! The refusals and the constants here and in the C header: the same names, numbers
+//! and words.
 
-use checkraven::Refusal;
+use checkraven::{Refusal, MOST_SHEET, MOST_SHEETS, MOST_SHEET_TEXT, MOST_TEXT, NO_FUGITIVE};
 use std::fs;
+
+fn header() -> String {
+    let path = concat!(env!("CARGO_MANIFEST_DIR"), "/../include/checkraven.h");
+    fs::read_to_string(path).expect("the header is there")
+}
 
 /// Name, number and words of each refusal that the header defines.
 fn in_the_header() -> Vec<(String, u32, String)> {
-    let path = concat!(env!("CARGO_MANIFEST_DIR"), "/../include/checkraven.h");
-    let header = fs::read_to_string(path).expect("the header is there");
-    header.lines().filter_map(refusal_of_line).collect()
+    header().lines().filter_map(refusal_of_line).collect()
 }
 
 /// Of a line `#define CHECKRAVEN_NAME NUMBER /* words */`.
@@ -35,4 +39,22 @@ fn names_numbers_and_words_are_those_of_the_header() {
     let here = Refusal::NAMED
         .map(|refusal| (as_in_c(&format!("{refusal:?}")), refusal.number(), refusal.to_string()));
     assert_eq!(here.to_vec(), in_the_header());
+}
+
+#[test]
+fn constants_are_those_of_the_header() {
+    let header = header();
+    let numbers = [
+        ("SHEETS", MOST_SHEETS),
+        ("SHEET", MOST_SHEET),
+        ("TEXT", MOST_TEXT),
+        ("SHEET_TEXT", MOST_SHEET_TEXT),
+    ];
+    for (name, number) in numbers {
+        let line = format!("#define CHECKRAVEN_MOST_{name} {number}\n");
+        assert!(header.contains(&line), "{line}");
+    }
+    let bytes = NO_FUGITIVE.map(|byte| byte.to_string()).join(", ");
+    let table = format!("uint8_t checkraven_no_fugitive[12] = {{ {bytes} }};\n");
+    assert!(header.contains(&table), "{table}");
 }

@@ -3,7 +3,7 @@
 
 use checkraven::{account, account_text, declare, declare_text, Outcome, Refusal, Refused};
 use checkraven::{sheet_from_text, sheet_from_text_into, text_from_sheet, text_from_sheet_into};
-use checkraven::{MOST_CELLS, MOST_SHEET, MOST_SHEET_TEXT};
+use checkraven::{MOST_CELLS, MOST_SHEET, MOST_SHEET_TEXT, NO_FUGITIVE};
 use std::fs;
 use std::path::{Path, PathBuf};
 
@@ -65,9 +65,9 @@ fn a_refusal_leaves_zeros() {
 /// thousandth it is written.
 #[test]
 fn a_reading_over_its_limit_is_refused_with_its_line() {
-    let line = "1,1,1,1,0,1,0,1,1,1,8784,8784,0\r\n";
-    let mut sheet = sheet_from_text(format!("1,1,1\r\n{line}{line}").as_bytes()).unwrap();
-    let written = line.replace("8784", "8784.000");
+    let line = "1,1,1,1,0,1,0,1,1,1,8784,8784,0";
+    let mut sheet = sheet_from_text(format!("1,1,1\r\n{line}\r\n{line}").as_bytes()).unwrap();
+    let written = line.replace("8784", "8784.000") + ",0,0,0\r\n";
     assert_eq!(text_from_sheet(&sheet).unwrap(), format!("1,1,1\r\n{written}{written}"));
     let production_of_line_2 = 16 + 64 + 40;
     let hours = 8784.001f64.to_bits().to_le_bytes();
@@ -80,12 +80,24 @@ fn every_example_there_and_back_is_declared_alike() {
     assert!(examples_of_a_sheet().len() >= 10, "the examples are there");
     for folder in examples_of_a_sheet() {
         let read = |name| fs::read(folder.join(name)).unwrap();
-        let (book, sheet) = (read("book.bin"), read("sheet.bin"));
+        let [book, fugitive, sheet] = ["book.bin", "fugitive.bin", "sheet.bin"].map(read);
         let text = text_from_sheet(&sheet).unwrap();
-        let declared = declare(&book, &sheet);
-        assert_eq!(declare_text(&book, text.as_bytes()), declared, "{}", folder.display());
+        let declared = declare(&book, &fugitive, &sheet);
+        let of_text = declare_text(&book, &fugitive, text.as_bytes());
+        assert_eq!(of_text, declared, "{}", folder.display());
         let again = sheet_from_text(text.as_bytes()).unwrap();
-        assert_eq!(declare(&book, &again), declared, "{}", folder.display());
+        assert_eq!(declare(&book, &fugitive, &again), declared, "{}", folder.display());
+    }
+}
+
+/// Grades that are left off at the end of a record are 0; all are written.
+#[test]
+fn grades_may_be_left_off_and_are_written() {
+    let line = "1,1,1,1,0,0,0,0,1,1,0,0,0";
+    for (typed, written) in [("", ",0,0,0"), (",2", ",2,0,0"), (",2,1", ",2,1,0")] {
+        let text = |grades| format!("2,3,1\r\n{line}{grades}\r\n");
+        let sheet = sheet_from_text(text(typed).as_bytes()).unwrap();
+        assert_eq!(text_from_sheet(&sheet).unwrap(), text(written));
     }
 }
 
@@ -93,7 +105,7 @@ fn every_example_there_and_back_is_declared_alike() {
 fn the_longest_texts_and_sheets_have_room() {
     let most = u64::MAX;
     let codes = "65535,65535,65535,65535,65535,65535,65535";
-    let line = format!("{codes},2,{most},{most},10000000.000,10000.000,8784.000\r\n");
+    let line = format!("{codes},2,{most},{most},10000000.000,10000.000,8784.000,255,255,255\r\n");
     let text = format!("3,255,3\r\n{}", line.repeat(128));
     let sheet = sheet_from_text(text.as_bytes()).unwrap();
     assert_eq!(sheet.len(), MOST_SHEET);
@@ -103,35 +115,42 @@ fn the_longest_texts_and_sheets_have_room() {
     assert_eq!(sheet_from_text(too_many.as_bytes()), refused(Refusal::TextMalformed, 0));
 }
 
+fn lend_text(text: &[u8], exact: &mut [u64], shown: &mut [u64]) -> Outcome {
+    account_text(&BOOK_WITHOUT_ROWS, &NO_FUGITIVE, text, exact, shown)
+}
+
 #[test]
 fn cells_are_those_of_the_binary_sheet() {
     let text = TEXT_WITHOUT_LINES.as_bytes();
-    let (mut exact, mut shown) = ([7; 6], [8; 5]);
-    assert!(account_text(&BOOK_WITHOUT_ROWS, text, &mut exact, &mut shown).is_accepted());
-    assert_eq!((exact, shown), ([0, 0, 0, 0, 7, 7], [0, 0, 0, 0, 8]));
+    let (mut exact, mut shown) = ([7; 7], [8; 6]);
+    assert!(lend_text(text, &mut exact, &mut shown).is_accepted());
+    assert_eq!((exact, shown), ([0, 0, 0, 0, 0, 7, 7], [0, 0, 0, 0, 0, 8]));
 
     let cells = || ([7; MOST_CELLS], [8; MOST_CELLS]);
     let line = "1,1,1,1,0,0,0,0,1,1,0,0,0";
     let text = format!("3,7,2\r\n{line}");
     let sheet = sheet_from_text(text.as_bytes()).unwrap();
     let (mut of_text, mut of_sheet) = (cells(), cells());
-    let outcome = account_text(&BOOK_WITHOUT_ROWS, text.as_bytes(), &mut of_text.0, &mut of_text.1);
+    let outcome = lend_text(text.as_bytes(), &mut of_text.0, &mut of_text.1);
     assert_eq!(outcome, Outcome::Refused { number: 6, line: 1 });
-    let same = account(&BOOK_WITHOUT_ROWS, &sheet, &mut of_sheet.0, &mut of_sheet.1);
+    let (exact, shown) = (&mut of_sheet.0, &mut of_sheet.1);
+    let same = account(&BOOK_WITHOUT_ROWS, &NO_FUGITIVE, &sheet, exact, shown);
     assert_eq!((outcome, of_text), (same, of_sheet));
 }
 
-/// 1, then 12, then 3.
+/// 1, then 13, then 12, then 3.
 #[test]
 fn files_are_refused_in_their_order() {
-    let refused_by = |book: &[u8], text: &[u8], cells: usize| {
-        let (mut exact, mut shown) = (vec![7; cells], vec![8; cells]);
-        let outcome = account_text(book, text, &mut exact, &mut shown);
+    let refused_by = |book: &[u8], fugitive: &[u8], text: &[u8]| {
+        let (mut exact, mut shown) = (vec![7; 4], vec![8; 4]);
+        let outcome = account_text(book, fugitive, text, &mut exact, &mut shown);
         assert!(exact.iter().chain(&shown).all(|&cell| cell == 0));
         outcome
     };
     let refused = |number| Outcome::Refused { number, line: 0 };
-    assert_eq!(refused_by(&[], b"", 3), refused(1));
-    assert_eq!(refused_by(&BOOK_WITHOUT_ROWS, b"", 3), refused(12));
-    assert_eq!(refused_by(&BOOK_WITHOUT_ROWS, TEXT_WITHOUT_LINES.as_bytes(), 3), refused(3));
+    let (book, text) = (BOOK_WITHOUT_ROWS, TEXT_WITHOUT_LINES.as_bytes());
+    assert_eq!(refused_by(&[], &[], b""), refused(1));
+    assert_eq!(refused_by(&book, &[], b""), refused(13));
+    assert_eq!(refused_by(&book, &NO_FUGITIVE, b""), refused(12));
+    assert_eq!(refused_by(&book, &NO_FUGITIVE, text), refused(3));
 }

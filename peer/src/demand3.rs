@@ -10,7 +10,7 @@ pub enum Fault {
         row: usize,
         column: usize,
     },
-    /// G isn't R + U + D.
+    /// G isn't R + U + D + F.
     Row {
         row: usize,
     },
@@ -20,9 +20,12 @@ pub enum Fault {
     },
 }
 
+/// G, R, U, D, F.
+const COLUMNS: usize = 5;
+
 /// Checks a shown table in units of `unit` against the exact table.
 pub fn check(exact: &[u64], shown: &[u64], unit: u64) -> Result<(), Fault> {
-    if exact.len() != shown.len() || !exact.len().is_multiple_of(4) || exact.is_empty() {
+    if exact.len() != shown.len() || !exact.len().is_multiple_of(COLUMNS) || exact.is_empty() {
         return Err(Fault::NotTheSameShape);
     }
     check_cells(exact, shown, unit)?;
@@ -34,14 +37,14 @@ fn check_cells(exact: &[u64], shown: &[u64], unit: u64) -> Result<(), Fault> {
     let is_allowed =
         |(&exact, &shown): (&u64, &u64)| shown == exact / unit || shown == exact.div_ceil(unit);
     match exact.iter().zip(shown).position(|cell| !is_allowed(cell)) {
-        Some(at) => Err(Fault::Cell { row: at / 4 + 1, column: at % 4 + 1 }),
+        Some(at) => Err(Fault::Cell { row: at / COLUMNS + 1, column: at % COLUMNS + 1 }),
         None => Ok(()),
     }
 }
 
 fn check_rows(shown: &[u64]) -> Result<(), Fault> {
-    for (index, row) in shown.chunks_exact(4).enumerate() {
-        if row[0] as u128 != row[1] as u128 + row[2] as u128 + row[3] as u128 {
+    for (index, row) in shown.chunks_exact(COLUMNS).enumerate() {
+        if row[0] as u128 != row[1..].iter().map(|&cell| cell as u128).sum() {
             return Err(Fault::Row { row: index + 1 });
         }
     }
@@ -49,9 +52,10 @@ fn check_rows(shown: &[u64]) -> Result<(), Fault> {
 }
 
 fn check_columns(shown: &[u64]) -> Result<(), Fault> {
-    let (rows, last) = shown.split_at(shown.len() - 4);
+    let (rows, last) = shown.split_at(shown.len() - COLUMNS);
     for (column, &total) in last.iter().enumerate() {
-        let sum: u128 = rows.iter().skip(column).step_by(4).map(|&cell| cell as u128).sum();
+        let cells = rows.iter().skip(column).step_by(COLUMNS);
+        let sum: u128 = cells.map(|&cell| cell as u128).sum();
         if sum != total as u128 {
             return Err(Fault::Column { column: column + 1 });
         }
@@ -64,43 +68,54 @@ mod tests {
     use super::*;
 
     /// Two lines of 150,000 units in grams.
-    const EXACT: [u64; 12] =
-        [150_000, 0, 0, 150_000, 150_000, 0, 0, 150_000, 300_000, 0, 0, 300_000];
+    const EXACT: [u64; 15] =
+        [150_000, 0, 0, 150_000, 0, 150_000, 0, 0, 150_000, 0, 300_000, 0, 0, 300_000, 0];
 
-    fn check_shown(shown: [u64; 12]) -> Result<(), Fault> {
+    fn check_shown(shown: [u64; 15]) -> Result<(), Fault> {
         check(&EXACT, &shown, 100_000)
     }
 
     #[test]
     fn either_order_of_one_and_two_is_allowed() {
-        assert_eq!(check_shown([1, 0, 0, 1, 2, 0, 0, 2, 3, 0, 0, 3]), Ok(()));
-        assert_eq!(check_shown([2, 0, 0, 2, 1, 0, 0, 1, 3, 0, 0, 3]), Ok(()));
+        assert_eq!(check_shown([1, 0, 0, 1, 0, 2, 0, 0, 2, 0, 3, 0, 0, 3, 0]), Ok(()));
+        assert_eq!(check_shown([2, 0, 0, 2, 0, 1, 0, 0, 1, 0, 3, 0, 0, 3, 0]), Ok(()));
     }
 
     #[test]
     fn each_cell_rounded_to_nearest_is_not_allowed() {
-        let nearest = [2, 0, 0, 2, 2, 0, 0, 2, 3, 0, 0, 3];
+        let nearest = [2, 0, 0, 2, 0, 2, 0, 0, 2, 0, 3, 0, 0, 3, 0];
         assert_eq!(check_shown(nearest), Err(Fault::Column { column: 1 }));
     }
 
     #[test]
     fn a_whole_cell_stays_whole_and_a_loose_one_stays_near() {
-        let whole_moved = [1, 0, 0, 1, 2, 0, 0, 2, 4, 0, 0, 4];
+        let whole_moved = [1, 0, 0, 1, 0, 2, 0, 0, 2, 0, 4, 0, 0, 4, 0];
         assert_eq!(check_shown(whole_moved), Err(Fault::Cell { row: 3, column: 1 }));
-        assert_eq!(check_shown([0; 12]), Err(Fault::Cell { row: 1, column: 1 }));
-        let too_high = [1, 0, 0, 3, 2, 0, 0, 2, 3, 0, 0, 3];
+        assert_eq!(check_shown([0; 15]), Err(Fault::Cell { row: 1, column: 1 }));
+        let too_high = [1, 0, 0, 3, 0, 2, 0, 0, 2, 0, 3, 0, 0, 3, 0];
         assert_eq!(check_shown(too_high), Err(Fault::Cell { row: 1, column: 4 }));
     }
 
     #[test]
     fn rows_must_add_up() {
-        let off = [1, 0, 0, 2, 2, 0, 0, 1, 3, 0, 0, 3];
+        let off = [1, 0, 0, 2, 0, 2, 0, 0, 1, 0, 3, 0, 0, 3, 0];
         assert_eq!(check_shown(off), Err(Fault::Row { row: 1 }));
+    }
+
+    /// One line of 150,000 units discharged and 50,000 of dust.
+    #[test]
+    fn dust_counts_in_its_row() {
+        let exact = [200_000, 0, 0, 150_000, 50_000, 200_000, 0, 0, 150_000, 50_000];
+        let check_row = |row: [u64; 5]| check(&exact, &[row, row].concat(), 100_000);
+        assert_eq!(check_row([2, 0, 0, 2, 0]), Ok(()));
+        assert_eq!(check_row([2, 0, 0, 1, 1]), Ok(()));
+        assert_eq!(check_row([2, 0, 0, 2, 1]), Err(Fault::Row { row: 1 }));
+        assert_eq!(check_row([2, 0, 0, 1, 2]), Err(Fault::Cell { row: 1, column: 5 }));
     }
 
     #[test]
     fn tables_of_other_shapes_are_not_allowed() {
-        assert_eq!(check(&EXACT, &[0; 8], 100_000), Err(Fault::NotTheSameShape));
+        assert_eq!(check(&EXACT, &[0; 10], 100_000), Err(Fault::NotTheSameShape));
         assert_eq!(check(&[], &[], 100_000), Err(Fault::NotTheSameShape));
     }
 }

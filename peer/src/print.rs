@@ -1,7 +1,7 @@
 //! The outcome as the program prints it.
 
 use crate::compare::{BundleCase, Case, Filled, FilledBundle};
-use checkraven::Outcome;
+use checkraven::{cells_for, Outcome};
 use std::fmt::Write;
 
 /// The whole output for a bundle whose lent cells the desk has filled.
@@ -25,7 +25,7 @@ pub fn whole_output(case: &Case, outcome: Outcome, exact: &[u64], shown: &[u64])
             writeln!(text, "refused {number} line {line}").expect("strings take all text");
         }
         Outcome::Accepted => {
-            let cells = 4 * (case.line_count() + 1);
+            let cells = cells_for(case.line_count());
             write_table(&mut text, "exact", &exact[..cells]);
             writeln!(text, "unit {}", case.shown_unit()).expect("strings take all text");
             write_table(&mut text, "shown", &shown[..cells]);
@@ -35,10 +35,10 @@ pub fn whole_output(case: &Case, outcome: Outcome, exact: &[u64], shown: &[u64])
 }
 
 fn write_table(text: &mut String, name: &str, cells: &[u64]) {
-    let lines = cells.len() / 4 - 1;
-    for (row, cells) in cells.chunks_exact(4).enumerate() {
-        let label = if row < lines { (row + 1).to_string() } else { "total".to_string() };
-        let [g, r, u, d] = [cells[0], cells[1], cells[2], cells[3]];
-        writeln!(text, "{name} {label} {g} {r} {u} {d}").expect("strings take all text");
+    let rows = cells.as_chunks().0;
+    for (row, [g, r, u, d, f]) in rows.iter().enumerate() {
+        let is_last = row + 1 == rows.len();
+        let label = if is_last { "total".to_string() } else { (row + 1).to_string() };
+        writeln!(text, "{name} {label} {g} {r} {u} {d} {f}").expect("strings take all text");
     }
 }

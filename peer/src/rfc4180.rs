@@ -17,17 +17,21 @@ const fn numeral(least: u128, most: u128) -> Field {
 
 const CODE: Field = numeral(0, u16::MAX as u128);
 const KIND: Field = numeral(0, 3);
+const GRADE: Field = numeral(0, u8::MAX as u128);
 const KILOGRAMS: Field = numeral(0, u64::MAX as u128);
 
 /// Medium, pollutant, shown unit.
 const FIRST_RECORD: [Field; 3] = [numeral(1, 3), numeral(1, 255), numeral(1, 3)];
 
 /// Industry, product, material, process, scale, technique, reuse; kind; product
-/// and material in kilograms; a, b, c.
-const LINE: [Field; 13] = {
-    let [code, kg, reading] = [CODE, KILOGRAMS, Field::Reading];
-    [code, code, code, code, code, code, code, KIND, kg, kg, reading, reading, reading]
+/// and material in kilograms; a, b, c; crushing, tapping, spill.
+const LINE: [Field; 16] = {
+    let [c, kg, reading, grade] = [CODE, KILOGRAMS, Field::Reading, GRADE];
+    [c, c, c, c, c, c, c, KIND, kg, kg, reading, reading, reading, grade, grade, grade]
 };
+
+/// Grades may be left off, and no other fields.
+const FEWEST_FIELDS: usize = 13;
 
 pub fn is_taken(text: &[u8]) -> bool {
     let records = records(text);
@@ -38,7 +42,7 @@ pub fn is_taken(text: &[u8]) -> bool {
     text.len() <= MOST_BYTES
         && lines.len() <= MOST_LINES
         && fits(first, &FIRST_RECORD)
-        && lines.iter().all(|line| fits(line, &LINE))
+        && lines.iter().all(|line| fits(line, &LINE[..line.len().clamp(FEWEST_FIELDS, LINE.len())]))
 }
 
 /// The raw fields of each record. A quote goes in or out; a comma ends a field

@@ -29,7 +29,7 @@ fn small_sheets() -> [Vec<u8>; 3] {
 }
 
 fn small_bundle() -> Bundle {
-    Bundle::with_gaps(12, &small_sheets(), &[2, 3, 0, 4])
+    Bundle::with_gaps(15, &small_sheets(), &[2, 3, 0, 4])
 }
 
 fn case(bundle: &Bundle) -> BundleCase {
@@ -181,7 +181,7 @@ fn sheets_of_no_bytes_are_refused_alone() {
         sheets[place] = vec![];
         let mut expected = [(0, 0); 3];
         expected[place] = (2, 0);
-        tally.expect_sheets(&case(&Bundle::of(12, &sheets)), &expected);
+        tally.expect_sheets(&case(&Bundle::of(15, &sheets)), &expected);
     }
     tally.expect_sheets(&case(&Bundle::of(12, &vec![vec![]; 16])), &[(2, 0); 16]);
 }

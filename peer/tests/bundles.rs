@@ -44,10 +44,10 @@ fn every_number_of_sheets() {
 fn sheets_of_every_size() {
     let mut tally = Tally::new("sheets_of_every_size");
     for lines in thinned((0..=128).collect()) {
-        let cells = 4 * (lines as u32 + 1);
+        let cells = 5 * (lines as u32 + 1);
         tally.expect_sheets(&case(cells, &sheets(&[lines; 5])), &[ACCEPTED; 5]);
         let mixed = sheets(&[0, lines, lines / 2, 1, lines]);
-        tally.expect_sheets(&case(cells.max(8), &mixed), &[ACCEPTED; 5]);
+        tally.expect_sheets(&case(cells.max(10), &mixed), &[ACCEPTED; 5]);
     }
 }
 
@@ -74,9 +74,9 @@ fn generated_works() {
 #[test]
 fn more_than_sixteen_sheets() {
     let mut tally = Tally::new("more_than_sixteen_sheets");
-    tally.expect_sheets(&case(4, &sheets(&[0; 16])), &[ACCEPTED; 16]);
+    tally.expect_sheets(&case(5, &sheets(&[0; 16])), &[ACCEPTED; 16]);
     for number in [17, 18, 32, 255, 256] {
-        let case = case(4, &sheets(&vec![0; number])).with_lengths(9000, 9000, 300);
+        let case = case(5, &sheets(&vec![0; number])).with_lengths(9000, 9000, 300);
         tally.expect_refused(&case, 16, 0);
     }
 }
@@ -99,7 +99,7 @@ const FAULTS: [Fault; 8] = [
 ];
 
 /// Sheets with every refusal that a sheet of its own can have where its runs
-/// have twelve cells, each with its number and line.
+/// have fifteen cells, each with its number and line.
 fn refused_sheets() -> Vec<((u64, u64), Vec<u8>)> {
     let with_fault = |(number, spoil): Fault| {
         let mut lines = vec![line(7), line(8)];
@@ -119,7 +119,7 @@ fn every_refusal_beside_accepted_sheets() {
         sheets[place] = refused;
         let mut expected = [ACCEPTED; 5];
         expected[place] = refusal;
-        tally.expect_sheets(&case(12, &sheets), &expected);
+        tally.expect_sheets(&case(15, &sheets), &expected);
     }
 }
 
@@ -128,7 +128,7 @@ fn every_two_refusals_side_by_side() {
     let mut tally = Tally::new("every_two_refusals_side_by_side");
     for ((one, first), (other, second)) in every_two(&refused_sheets(), &refused_sheets()) {
         let sheets = [sheet(2, 0), first.clone(), second, sheet(2, 3), first];
-        tally.expect_sheets(&case(12, &sheets), &[ACCEPTED, one, other, ACCEPTED, one]);
+        tally.expect_sheets(&case(15, &sheets), &[ACCEPTED, one, other, ACCEPTED, one]);
     }
 }
 
@@ -140,7 +140,7 @@ fn all_refusals_in_one_bundle() {
         expected.insert(place, ACCEPTED);
         all.insert(place, sheet(2, place));
     }
-    tally.expect_sheets(&case(12, &all), &expected);
+    tally.expect_sheets(&case(15, &all), &expected);
 }
 
 /// Runs that are too short for one sheet refuse that sheet alone.
@@ -148,7 +148,7 @@ fn all_refusals_in_one_bundle() {
 fn cells_per_sheet_around_the_need() {
     let mut tally = Tally::new("cells_per_sheet_around_the_need");
     let sheets = sheets(&[1, 3, 0, 2]);
-    let need = [8, 16, 4, 12];
+    let need = [10, 20, 5, 15];
     for cells in 0..=40 {
         let expected = need.map(|need| if cells < need { (3, 0) } else { ACCEPTED });
         tally.expect_sheets(&case(cells, &sheets), &expected);
@@ -164,8 +164,8 @@ fn cells_per_sheet_far_over_the_room() {
     let around = |power: u32| [(1 << power) - 1, 1 << power, (1 << power) + 1];
     let cells: Vec<u32> = (5..32).flat_map(around).chain([u32::MAX]).collect();
     for (number, cells) in every_two(&[1, 2, 3, 5, 15, 16], &cells) {
-        let case = case(cells, &vec![sheet(0, 0); number]).with_lengths(8256, 8256, 16);
-        match number as u64 * cells as u64 <= 8256 {
+        let case = case(cells, &vec![sheet(0, 0); number]).with_lengths(10_320, 10_320, 16);
+        match number as u64 * cells as u64 <= 10_320 {
             true => tally.expect_sheets(&case, &vec![ACCEPTED; number]),
             false => tally.expect_refused(&case, 3, 0),
         }
@@ -175,7 +175,7 @@ fn cells_per_sheet_far_over_the_room() {
 #[test]
 fn results_and_outcomes_around_the_need() {
     let mut tally = Tally::new("results_and_outcomes_around_the_need");
-    for (number, cells) in [(1, 12), (2, 8), (5, 9), (16, 13)] {
+    for (number, cells) in [(1, 15), (2, 10), (5, 11), (16, 16)] {
         lend_around_the_need(&mut tally, number, cells);
     }
 }
@@ -221,7 +221,7 @@ fn the_second_sheets_are_refused_alone() {
     let mut tally = Tally::new("the_second_sheets_are_refused_alone");
     let answers = [ACCEPTED, (2, 0), (3, 0), (6, 1), (2, 0)];
     for (sheets, answer) in good_and_refused_sheets().iter().zip(answers) {
-        let case = BundleCase::of(&book().bytes(), &Bundle::of(12, sheets));
+        let case = BundleCase::of(&book().bytes(), &Bundle::of(15, sheets));
         tally.expect_sheets(&case, &[ACCEPTED, answer]);
     }
 }
@@ -230,10 +230,10 @@ fn the_second_sheets_are_refused_alone() {
 fn malformed_comes_before_room_book_and_sheets() {
     let mut tally = Tally::new("malformed_comes_before_room_book_and_sheets");
     let books = [book().bytes(), bad_book(), vec![]];
-    let lent = [(0, 0, 0), (23, 24, 2), (24, 23, 2), (24, 24, 1), (99, 99, 9)];
+    let lent = [(0, 0, 0), (29, 30, 2), (30, 29, 2), (30, 30, 1), (99, 99, 9)];
     let cases = every_two(&every_two(&books, &lent), &good_and_refused_sheets());
     for ((book, (exact, shown, outcomes)), sheets) in cases {
-        let mut malformed = Bundle::of(12, &sheets);
+        let mut malformed = Bundle::of(15, &sheets);
         malformed.zero = 1;
         let case = BundleCase::of(&book, &malformed).with_lengths(exact, shown, outcomes);
         tally.expect_refused(&case, 16, 0);
@@ -244,10 +244,10 @@ fn malformed_comes_before_room_book_and_sheets() {
 fn room_comes_before_book_and_sheets() {
     let mut tally = Tally::new("room_comes_before_book_and_sheets");
     let books = [book().bytes(), bad_book(), vec![]];
-    let lent = [(0, 0, 0), (23, 99, 2), (99, 23, 2), (24, 24, 1)];
+    let lent = [(0, 0, 0), (29, 99, 2), (99, 29, 2), (30, 30, 1)];
     let cases = every_two(&every_two(&books, &lent), &good_and_refused_sheets());
     for ((book, (exact, shown, outcomes)), sheets) in cases {
-        let bundle = Bundle::of(12, &sheets);
+        let bundle = Bundle::of(15, &sheets);
         let case = BundleCase::of(&book, &bundle).with_lengths(exact, shown, outcomes);
         tally.expect_refused(&case, 3, 0);
     }
@@ -260,7 +260,7 @@ fn a_bad_book_is_refused_for_each_sheet() {
     let mut longest = book();
     longest.gaps[1] = 65_536 - longest.bytes().len();
     let sheets = [sheet(2, 0), vec![], sheet(3, 2), sheet(0, 3)];
-    let bundle = Bundle::of(12, &sheets);
+    let bundle = Bundle::of(15, &sheets);
     let at_the_limit = BundleCase::of(&longest.bytes(), &bundle);
     tally.expect_sheets(&at_the_limit, &[ACCEPTED, (2, 0), (3, 0), ACCEPTED]);
     longest.gaps[1] += 1;
@@ -287,12 +287,12 @@ fn bundles_of_no_sheets() {
 fn gaps_that_fill_the_bundle_up() {
     let mut tally = Tally::new("gaps_that_fill_the_bundle_up");
     let sheets = sheets(&[128, 1, 128]);
-    let length = Bundle::of(516, &sheets).length as usize;
+    let length = Bundle::of(645, &sheets).length as usize;
     for gap in 0..4 {
         let filled_up_to = |bytes: usize| {
             let mut gaps = [0; 4];
             gaps[gap] = bytes - length;
-            BundleCase::of(&book().bytes(), &Bundle::with_gaps(516, &sheets, &gaps))
+            BundleCase::of(&book().bytes(), &Bundle::with_gaps(645, &sheets, &gaps))
         };
         tally.expect_sheets(&filled_up_to(65_536), &[ACCEPTED; 3]);
         tally.expect_refused(&filled_up_to(65_537), 16, 0);
@@ -305,7 +305,7 @@ fn a_sheet_that_fills_the_bundle_up() {
     let filled_up_to = |bytes: usize| {
         let gap = bytes - (12 + 8) - (16 + 64);
         let sheet = Sheet { gaps: [0, gap], ..Sheet::new(1, 1, 1, vec![line(5)]) };
-        case(8, &[sheet.bytes()])
+        case(10, &[sheet.bytes()])
     };
     tally.expect_sheets(&filled_up_to(65_536), &[ACCEPTED]);
     tally.expect_refused(&filled_up_to(65_537), 16, 0);

@@ -178,7 +178,7 @@ fn shown_row(row: &[&str], rows: &[Vec<&str>]) -> Option<Vec<String>> {
     let lines = rows[0].iter().skip(1).take(row.len() - 3);
     let exact: Vec<f64> = lines.map(|cell| number(cell)).collect::<Option<_>>()?;
     let lines = exact.iter().map(|units| Line::direct(*units as u64)).collect();
-    let by_desk = desk(WATER, 0.0, 1, lines).shown.into_iter().skip(3).step_by(4);
+    let by_desk = desk(WATER, 0.0, 1, lines).shown.into_iter().skip(3).step_by(5);
     let with_total = exact.iter().copied().chain([exact.iter().sum()]);
     let mut shown: Vec<f64> = match row[0] {
         "exact" => with_total.collect(),

@@ -54,7 +54,7 @@ fn every_example_of_a_sheet() {
     let folders = folders_with("sheet.bin");
     assert!(folders.len() >= 7, "the manuals' examples and the others are there");
     for folder in folders {
-        let case = Case::read(&folder).expect("the example has both files");
+        let case = Case::read(&folder).expect("the example has its files");
         tally.agree(&case);
         let filled = run_proved(&case).expect("the memory around is kept");
         check(&case, &filled, &expected_text(&folder), &folder);
@@ -69,7 +69,7 @@ fn every_example_of_a_text() {
     let folders = folders_with("sheet.csv");
     assert!(folders.len() > folders_with("sheet.bin").len(), "one sheet is a text alone");
     for folder in folders {
-        let text = TextCase::read(&folder).expect("the example has both files");
+        let text = TextCase::read(&folder).expect("the example has its files");
         tally.agree(&text);
         let filled = text.run_proved().expect("the memory around is kept");
         check(&text.with_binary_sheet(), &filled, &expected_text(&folder), &folder);
@@ -105,7 +105,7 @@ fn every_example_of_a_bundle() {
     let folders = folders_with("bundle.bin");
     assert!(!folders.is_empty(), "an example of a bundle is there");
     for folder in folders {
-        let case = BundleCase::read(&folder).expect("the example has both files");
+        let case = BundleCase::read(&folder).expect("the example has its files");
         tally.expect_accepted(&case);
         check_sheets(&case, &folder);
     }

@@ -26,8 +26,9 @@ fn sums_of_128_of_the_largest_lines() {
     tally.expect_accepted(&case);
     let filled = run_proved(&case).expect("the memory around is kept");
     let sums = 128 * 100_000_000_000_000_000u64;
-    assert_eq!(filled.exact[512..516], [sums, 0, 0, sums]);
-    assert_eq!(filled.shown[512..516], [sums / 100_000_000_000, 0, 0, sums / 100_000_000_000]);
+    assert_eq!(filled.exact[640..645], [sums, 0, 0, sums, 0]);
+    let tonnes = sums / 100_000_000_000;
+    assert_eq!(filled.shown[640..645], [tonnes, 0, 0, tonnes, 0]);
 }
 
 #[test]

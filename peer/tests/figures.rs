@@ -48,8 +48,9 @@ fn check(tally: &mut Tally, figure: &Figure, medium: u8) {
     let case = case(figure, medium);
     tally.expect_accepted(&case);
     let filled = run_proved(&case).expect("the memory around is kept");
-    assert_eq!(filled.exact[..4], figure.expected, "the line");
-    assert_eq!(filled.exact[4..8], figure.expected, "the sums");
+    let [g, r, u, d] = figure.expected;
+    assert_eq!(filled.exact[..5], [g, r, u, d, 0], "the line");
+    assert_eq!(filled.exact[5..10], [g, r, u, d, 0], "the sums");
 }
 
 #[test]
@@ -167,9 +168,9 @@ fn two_lines_of_one_and_a_half_grams() {
     let case = Case::of(&book, &Sheet::new(2, 1, 1, vec![Line::direct(150_000); 2]));
     tally.expect_accepted(&case);
     let filled = run_proved(&case).expect("the memory around is kept");
-    let mut rows = [filled.shown[0], filled.shown[4]];
+    let mut rows = [filled.shown[0], filled.shown[5]];
     rows.sort();
-    assert_eq!((rows, filled.shown[8]), ([1, 2], 3));
+    assert_eq!((rows, filled.shown[10]), ([1, 2], 3));
 }
 
 /// The whole output of document 000's case, letter by letter.
@@ -188,11 +189,11 @@ fn document_000_prints_as_in_the_paper() {
     let filled = run_proved(&case).expect("the memory around is kept");
     let text = whole_output(&case, filled.outcome, &filled.exact, &filled.shown);
     let expected = "\
-exact 1 330720000000 231504000000 94255200000 4960800000
-exact total 330720000000 231504000000 94255200000 4960800000
+exact 1 330720000000 231504000000 94255200000 4960800000 0
+exact total 330720000000 231504000000 94255200000 4960800000 0
 unit 100000
-shown 1 3307200 2315040 942552 49608
-shown total 3307200 2315040 942552 49608
+shown 1 3307200 2315040 942552 49608 0
+shown total 3307200 2315040 942552 49608 0
 ";
     assert_eq!(text, expected);
 }
@@ -220,13 +221,13 @@ fn rounds_of_six_and_eight_cells() {
     let six = [to_removed_and_reused, to_reused_and_discharged, to_removed_and_discharged];
     let eight = [six[0], six[1], line(50_000, 0, 0), line(50_000, 2, 0)];
     for (lines, loose) in [(six.to_vec(), 6), (eight.to_vec(), 8)] {
-        let cells = 4 * (lines.len() + 1);
+        let cells = 5 * (lines.len() + 1);
         let case = Case::of(&book, &Sheet::new(1, 1, 1, lines));
         tally.expect_accepted(&case);
         let filled = run_proved(&case).expect("the memory around is kept");
         let halves = filled.exact[..cells].iter().filter(|cell| *cell % 100_000 == 50_000);
         assert_eq!(halves.count(), loose);
-        assert_eq!(filled.shown[cells - 4..cells], [3, 1, 1, 1]);
+        assert_eq!(filled.shown[cells - 5..cells], [3, 1, 1, 1, 0]);
     }
 }
 
@@ -299,7 +300,8 @@ fn is_up_to_date(top: &Path, folder: &Path) -> bool {
         }
         bytes
     };
-    ["book.bin", "sheet.bin", "bundle.bin"].iter().all(|file| read(folder, file) == changed(file))
+    let files = ["book.bin", "fugitive.bin", "sheet.bin", "bundle.bin"];
+    files.iter().all(|file| read(folder, file) == changed(file))
 }
 
 /// The folders that the proved program `figures` runs over are what their
@@ -313,11 +315,11 @@ fn the_folders_of_the_figures() {
         let folder = folder.path();
         assert!(is_up_to_date(&top, &folder), "stale files in {}", folder.display());
         if folder.join("bundle.bin").exists() {
-            tally.agree(&BundleCase::read(&folder).expect("a folder has both files"));
+            tally.agree(&BundleCase::read(&folder).expect("a folder has its files"));
         } else if folder.join("sheet.csv").exists() {
-            tally.agree(&TextCase::read(&folder).expect("a folder has both files"));
+            tally.agree(&TextCase::read(&folder).expect("a folder has its files"));
         } else {
-            tally.agree(&Case::read(&folder).expect("a folder has both files"));
+            tally.agree(&Case::read(&folder).expect("a folder has its files"));
         }
     }
 }

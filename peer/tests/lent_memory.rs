@@ -16,7 +16,7 @@ fn case(lines: usize) -> Case {
 fn every_two_lengths_around_the_need() {
     let mut tally = Tally::new("every_two_lengths_around_the_need");
     for lines in [0, 1, 2, 5] {
-        let need = 4 * (lines + 1);
+        let need = 5 * (lines + 1);
         let lengths = 0..=need + 9;
         let pairs = lengths.clone().flat_map(|a| lengths.clone().map(move |b| (a, b))).collect();
         for (exact_len, shown_len) in thinned::<(usize, usize)>(pairs) {
@@ -33,7 +33,7 @@ fn every_two_lengths_around_the_need() {
 fn the_full_sheet_at_its_need_and_next_to_it() {
     let mut tally = Tally::new("the_full_sheet_at_its_need_and_next_to_it");
     for lines in [127, 128] {
-        let need = 4 * (lines + 1);
+        let need = 5 * (lines + 1);
         tally.expect_accepted(&case(lines).with_lengths(need, need));
         tally.expect_accepted(&case(lines).with_lengths(need, 5000));
         tally.expect_refused(&case(lines).with_lengths(need - 1, need), 3, 0);
@@ -49,7 +49,7 @@ fn long_results_after_a_refusal() {
     let spoil: [fn(&mut Case); 3] =
         [|case| case.book[0] ^= 1, |case| case.sheet[0] ^= 1, |case| case.sheet[16] ^= 1];
     for (at, spoil) in spoil.iter().enumerate() {
-        for lengths in [(100, 70_000), (70_000, 100), (8, 8), (9, 12)] {
+        for lengths in [(100, 70_000), (70_000, 100), (10, 10), (11, 15)] {
             let mut case = case(1).with_lengths(lengths.0, lengths.1);
             spoil(&mut case);
             let (number, line) = [(1, 0), (2, 0), (6, 1)][at];

@@ -276,7 +276,7 @@ const SHEET_FAULTS: [SheetFault; 12] = [
     |sheet| sheet.lines[1].kind = 255,
     |sheet| sheet.lines[1].zero = 1,
     |sheet| sheet.lines[1].last_zeros[0] = 1,
-    |sheet| sheet.lines[1].last_zeros[7] = 128,
+    |sheet| sheet.lines[1].last_zeros[4] = 128,
     |sheet| sheet.lines = vec![hours_line(); 129],
 ];
 
@@ -297,7 +297,7 @@ fn whole_files_come_before_lines() {
     let line_faults = HOURS_FAULTS.iter().map(|fault| with_faults(hours_line(), &[*fault]));
     for spoiled in line_faults.chain([hours_line()]) {
         let lines = vec![spoiled, hours_line()];
-        let short = |case: Case| [case.clone().with_lengths(11, 12), case.with_lengths(12, 0)];
+        let short = |case: Case| [case.clone().with_lengths(14, 15), case.with_lengths(15, 0)];
         for spoil_sheet in SHEET_FAULTS {
             let mut malformed = sheet(lines.clone());
             spoil_sheet(&mut malformed);

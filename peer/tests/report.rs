@@ -31,7 +31,8 @@ fn lend(case: &Case, length: usize) -> (Option<String>, Vec<u8>) {
     let mut area = vec![MARK; length + 2 * MARGIN];
     let (begin, end) = (MARGIN, MARGIN + length);
     (0..length).for_each(|at| area[begin + at] = earlier(at));
-    let text = report_into(&case.book, &case.sheet, &mut area[begin..end]).map(str::to_string);
+    let Case { book, fugitive, sheet, .. } = case;
+    let text = report_into(book, fugitive, sheet, &mut area[begin..end]).map(str::to_string);
     let around = area[..begin].iter().chain(&area[end..]);
     assert!(around.copied().all(|byte| byte == MARK), "memory around the text is kept");
     (text, area[begin..end].to_vec())
@@ -41,7 +42,7 @@ fn check(case: &Case) {
     let expected = printed(case);
     let need = expected.len();
     assert!(need <= MOST_TEXT);
-    assert_eq!(report(&case.book, &case.sheet), expected);
+    assert_eq!(report(&case.book, &case.fugitive, &case.sheet), expected);
     for length in [need, need + 1, need + 100, MOST_TEXT + 3] {
         let (text, lent) = lend(case, length);
         assert_eq!(text.as_deref(), Some(&expected[..]));
@@ -64,10 +65,11 @@ fn every_example() {
         entries.map(|e| e.path()).filter(|f| f.join("sheet.bin").exists()).collect();
     assert!(folders.len() >= 7, "the manuals' examples and the others are there");
     for folder in folders {
-        let case = Case::read(&folder).expect("the example has both files");
+        let case = Case::read(&folder).expect("the example has its files");
         check(&case);
         let expected = fs::read_to_string(folder.join("expected.txt")).unwrap();
-        assert_eq!(report(&case.book, &case.sheet), expected, "{}", folder.display());
+        let text = report(&case.book, &case.fugitive, &case.sheet);
+        assert_eq!(text, expected, "{}", folder.display());
     }
 }
 

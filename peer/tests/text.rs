@@ -49,10 +49,10 @@ fn what_is_written_is_fixed_to_the_byte() {
     let conversion = Conversion::write(&Sheet::new(3, 255, 2, lines).bytes());
     tally.expect_accepted(&conversion);
     let expected = "3,255,2\r\n\
-        3240,1,1,1,0,0,65535,2,0,18446744073709551615,0,0,0\r\n\
-        3240,1,1,1,0,2,333,3,16250001,0,0,0,0\r\n\
-        3240,1,1,1,0,65535,333,1,16250001,0,0.063,8784.000,0\r\n\
-        3240,1,1,2,0,1,0,2,1000007,0,10000000.000,10000.000,0.000\r\n";
+        3240,1,1,1,0,0,65535,2,0,18446744073709551615,0,0,0,0,0,0\r\n\
+        3240,1,1,1,0,2,333,3,16250001,0,0,0,0,0,0,0\r\n\
+        3240,1,1,1,0,65535,333,1,16250001,0,0.063,8784.000,0,0,0,0\r\n\
+        3240,1,1,2,0,1,0,2,1000007,0,10000000.000,10000.000,0.000,0,0,0\r\n";
     let written = conversion.run_proved().expect("the memory around is kept");
     assert_eq!(str::from_utf8(written.bytes()).unwrap(), expected);
 }
@@ -225,9 +225,9 @@ fn typed_texts_on_the_desk() {
     let mut random = Random::new(66);
     let most = Size { rows: 12, techniques: 20, lines: 8 };
     for _ in 0..limited(8_000) {
-        let Case { book, sheet, .. } = generate::case_up_to(&mut random, most);
+        let Case { book, fugitive, sheet, .. } = generate::case_up_to(&mut random, most);
         let text = Text::of_sheet(&sheet).typed(&mut random).bytes();
-        tally.expect_accepted(&TextCase::with_room(book, text));
+        tally.expect_accepted(&TextCase::with_room(book, text).with_fugitive(fugitive));
     }
 }
 
@@ -292,11 +292,12 @@ fn the_longest_texts_and_sheets() {
         scale: codes,
         reuse: codes,
         material: u64::MAX,
+        grades: [u8::MAX; 3],
         ..Line::direct(u64::MAX).treated(codes, 2, [10_000_000.0, 10_000.0, 8784.0])
     };
     let writing = Conversion::write(&Sheet::new(3, 255, 3, vec![line; 128]).bytes());
     let need = bytes_needed(&writing);
-    assert_eq!(need, 15_241, "no written text is longer");
+    assert_eq!(need, 16_777, "no written text is longer");
     assert!(need <= MOST_SHEET_TEXT);
     let reading = Conversion::read(writing.run_plain().bytes());
     for (conversion, need) in [(writing, need), (reading, MOST_SHEET)] {
@@ -324,11 +325,11 @@ fn the_order_of_whole_files_on_text() {
     }
     for (book, (is_malformed, cells)) in every_two(
         &[bad_book(), book().bytes()],
-        &every_two(&[true, false], &[(0, 12), (12, 11), (12, 12)]),
+        &every_two(&[true, false], &[(0, 15), (15, 14), (15, 15)]),
     ) {
         let text = if is_malformed { &malformed } else { &over_the_reuse };
         let case = TextCase::with_room(book.clone(), text.clone()).with_lengths(cells.0, cells.1);
-        let (number, line) = match (book == bad_book(), is_malformed, cells == (12, 12)) {
+        let (number, line) = match (book == bad_book(), is_malformed, cells == (15, 15)) {
             (true, _, _) => (1, 0),
             (_, true, _) => (12, 0),
             (_, _, false) => (3, 0),
@@ -389,11 +390,11 @@ fn every_refusal_of_a_line() {
 #[test]
 fn every_two_lengths_of_results() {
     let mut tally = Tally::new("every_two_lengths_of_results");
-    let lengths: Vec<usize> = (0..=16).collect();
+    let lengths: Vec<usize> = (0..=19).collect();
     for (exact_len, shown_len) in thinned(every_two(&lengths, &lengths)) {
         let case =
             TextCase::with_room(book().bytes(), TEXT.into()).with_lengths(exact_len, shown_len);
-        match exact_len >= 12 && shown_len >= 12 {
+        match exact_len >= 15 && shown_len >= 15 {
             true => tally.expect_accepted(&case),
             false => tally.expect_refused(&case, 3, 0),
         }
@@ -410,12 +411,12 @@ fn every_example() {
         entries.map(|e| e.path()).filter(|f| f.join("sheet.bin").exists()).collect();
     assert!(folders.len() >= 10, "the manuals' examples and the others are there");
     for folder in folders {
-        let case = Case::read(&folder).expect("the example has both files");
+        let case = Case::read(&folder).expect("the example has its files");
         let text = TextCase::read(&folder).expect("the example has a text too");
         let outcome = tally.compare(&text);
         assert_eq!(outcome, tally.compare(&case), "{}", folder.display());
         let [text, sheet] = [text.run_plain(), run_plain(&case)];
-        let cells = 4 * (case.line_count() + 1);
+        let cells = 5 * (case.line_count() + 1);
         assert_eq!(text.exact[..cells], sheet.exact[..cells], "{}", folder.display());
         tally.expect_accepted(&ThereAndBack(case));
     }

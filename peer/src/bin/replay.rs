@@ -1,6 +1,7 @@
-//! Replays one case: `replay FOLDER` with book.bin and one of sheet.bin,
-//! bundle.bin and sheet.csv, and lengths.txt where the lengths of what is lent
-//! matter. A sheet.csv without a book is only read, a sheet.bin only written.
+//! Replays one case: `replay FOLDER` with book.bin, fugitive.bin and one of
+//! sheet.bin, bundle.bin and sheet.csv, and lengths.txt where the lengths of what is
+//! lent matter. A fugitive.bin that isn't there counts as empty. A sheet.csv without
+//! a book is only read, a sheet.bin only written.
 
 use peer::compare::{run_plain, run_proved, AnyCase, BundleCase, Case, Filled};
 use peer::compare::{Conversion, Converted, TextCase, ThereAndBack};

@@ -1,14 +1,15 @@
 //! The benchmark: the proved desk beside plain Rust in one run, on the same
-//! inputs, by turns. Prints a table in markdown: sheets, a full sheet read from
-//! text and written as text, a bundle. For a bundle it prints besides what the
+//! inputs, by turns. Prints a table in markdown: sheets, a full sheet of fugitive
+//! dust, a full sheet read from text and written as text, a bundle. For a bundle it prints besides what the
 //! same sheets take in calls of their own.
 //!
 //! Usage: `speed [ROUNDS [WORD]]`, by default 200 rounds a case, and only the
 //! cases that have the word in their names.
 
+use checkraven::cells_for;
 use peer::compare::{earlier_bytes, earlier_cells, run_plain, AnyCase};
 use peer::compare::{BundleCase, Case, Conversion, Way};
-use peer::make::{Book, Bundle, Line, Random, Row, Sheet, Technique};
+use peer::make::{Book, Bundle, Entry, Fugitive, Line, Random, Row, Sheet, Technique};
 use peer::plain;
 use std::hint::black_box;
 use std::time::{Duration, Instant};
@@ -78,13 +79,16 @@ fn cases() -> Vec<(String, Case)> {
     let loose = loose_case();
     assert!(every_cell_is_loose(&loose), "no cell is whole in tonnes");
     cases.push(("shown table of 128 loose lines, 1 row".to_string(), loose));
+    let name = "dust: 128 lines with three grades, 1,024 entries, 1,024 rows";
+    cases.push((name.to_string(), dust_case()));
     cases
 }
 
 fn every_cell_is_loose(case: &Case) -> bool {
-    let cells = 4 * (case.line_count() + 1);
+    let cells = cells_for(case.line_count());
     let exact = run_plain(case).exact;
-    exact[..cells].iter().all(|cell| cell % case.shown_unit() != 0)
+    let rows = exact[..cells].chunks_exact(cells_for(0));
+    rows.flat_map(|row| &row[..4]).all(|cell| cell % case.shown_unit() != 0)
 }
 
 /// Five lines of one works in a book of thirty rows with three techniques each.
@@ -110,11 +114,18 @@ fn full_case(unit: u32, kilowatts: f64) -> Case {
     Case::of(&full_book(), &Sheet::new(1, 1, unit, full_lines(kilowatts)))
 }
 
+/// Place of the full book's row, and of the full table's entry.
+fn full_place(index: u16) -> [u16; 4] {
+    [3400, 1 + index / 32, 1 + index % 32, 1]
+}
+
+/// COD in water.
 fn full_book() -> Book {
-    let row = |index: u16| Row {
-        place: [3400, 1 + index / 32, 1 + index % 32, 1],
-        ..Row::plain(1, 1, 150)
-    };
+    full_book_of(1, 1)
+}
+
+fn full_book_of(medium: u8, pollutant: u8) -> Book {
+    let row = |index: u16| Row { place: full_place(index), ..Row::plain(medium, pollutant, 150) };
     Book {
         rows: (0..1024).map(|index| row(index).with_techniques(2, 4 * index, 4)).collect(),
         techniques: (0..4096).map(|index| technique(1 + index % 4, 905)).collect(),
@@ -133,6 +144,19 @@ fn full_lines(kilowatts: f64) -> Vec<Line> {
         Line { place: [3400, 1 + index / 4, 1 + index % 32, 1], reuse: 333, ..line }
     };
     (0..128).map(line).collect()
+}
+
+/// A full sheet of particulates in gas, every line graded at all three places,
+/// under a full table.
+fn dust_case() -> Case {
+    let mut random = Random::new(3);
+    let factors = |index: u16| [0, 1, 2, 3, 4, 5, 6, 7, 8].map(|at| 291 + 100 * at + index);
+    let entry = |index: u16| Entry { place: full_place(index), scale: 0, factors: factors(index) };
+    let table = Fugitive::of(&(0..1024).map(entry).collect::<Vec<_>>());
+    let graded = |line: Line| Line { grades: [0; 3].map(|_| 1 + random.below(3) as u8), ..line };
+    let lines = full_lines(0.5).into_iter().map(graded).collect();
+    let case = Case::of(&full_book_of(2, 3), &Sheet::new(2, 3, 1, lines));
+    case.with_fugitive(table.bytes())
 }
 
 /// A full sheet by energy, so that all readings are used: its text to be read,
@@ -157,7 +181,7 @@ fn works() -> Works {
     let lines = full_lines(0.5);
     let sheet = |lines: &[Line]| Sheet::new(1, 1, 2, lines.to_vec()).bytes();
     let sheets: Vec<Vec<u8>> = lines.chunks(8).map(sheet).collect();
-    let bundle = Bundle::of(4 * (8 + 1), &sheets);
+    let bundle = Bundle::of(cells_for(8) as u32, &sheets);
     Works { case: BundleCase::of(&full_book().bytes(), &bundle), sheets }
 }
 
@@ -254,27 +278,31 @@ type Call<C> = fn(&C, &mut Results);
 
 fn call_proved(case: &Case, results: &mut Results) {
     let Results { exact, shown, .. } = results;
-    let outcome = checkraven::account(black_box(&case.book), black_box(&case.sheet), exact, shown);
+    let [book, fugitive, sheet] = [&case.book, &case.fugitive, &case.sheet].map(black_box);
+    let outcome = checkraven::account(book, fugitive, sheet, exact, shown);
     black_box(outcome.is_accepted());
 }
 
 fn call_plain(case: &Case, results: &mut Results) {
     let Results { exact, shown, .. } = results;
-    let answer = plain::account(black_box(&case.book), black_box(&case.sheet), exact, shown);
+    let [book, fugitive, sheet] = [&case.book, &case.fugitive, &case.sheet].map(black_box);
+    let answer = plain::account(book, fugitive, sheet, exact, shown);
     black_box(answer.is_ok());
 }
 
 fn call_proved_bundle(works: &Works, results: &mut Results) {
-    let (book, bundle) = (black_box(&works.case.book), black_box(&works.case.bundle));
+    let BundleCase { book, fugitive, bundle, .. } = &works.case;
+    let [book, fugitive, bundle] = [book, fugitive, bundle].map(black_box);
     let Results { exact, shown, outcomes, .. } = results;
-    let outcome = checkraven::account_bundle(book, bundle, exact, shown, outcomes);
+    let outcome = checkraven::account_bundle(book, fugitive, bundle, exact, shown, outcomes);
     black_box(outcome.is_accepted());
 }
 
 fn call_plain_bundle(works: &Works, results: &mut Results) {
-    let (book, bundle) = (black_box(&works.case.book), black_box(&works.case.bundle));
+    let BundleCase { book, fugitive, bundle, .. } = &works.case;
+    let [book, fugitive, bundle] = [book, fugitive, bundle].map(black_box);
     let Results { exact, shown, outcomes, .. } = results;
-    let answer = plain::account_bundle(book, bundle, exact, shown, outcomes);
+    let answer = plain::account_bundle(book, fugitive, bundle, exact, shown, outcomes);
     black_box(answer.is_ok());
 }
 
@@ -283,8 +311,8 @@ fn call_proved_alone(works: &Works, results: &mut Results) {
     let cells = works.case.cells_per_sheet();
     let runs = results.exact.chunks_exact_mut(cells).zip(results.shown.chunks_exact_mut(cells));
     for (sheet, (exact, shown)) in works.sheets.iter().zip(runs) {
-        let book = black_box(&works.case.book);
-        let outcome = checkraven::account(book, black_box(sheet), exact, shown);
+        let [book, fugitive] = [&works.case.book, &works.case.fugitive].map(black_box);
+        let outcome = checkraven::account(book, fugitive, black_box(sheet), exact, shown);
         black_box(outcome.is_accepted());
     }
 }

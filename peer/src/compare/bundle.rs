@@ -3,19 +3,20 @@
 use super::lent::{earlier_cells, Lent};
 use super::{
     check_answers, check_kept, check_lent_cells, check_memory, check_same_cells, check_zero,
-    keep_lengths, kept_lengths, outcome_of, run_proved_from, AnyCase, Case, Filled,
+    keep_lengths, kept_lengths, outcome_of, read_fugitive, run_proved_from, AnyCase, Case, Filled,
 };
 use crate::plain;
-use checkraven::{Outcome, MOST_CELLS, MOST_SHEETS};
+use checkraven::{Outcome, MOST_CELLS, MOST_SHEETS, NO_FUGITIVE};
 use std::fs;
 use std::io;
 use std::ops::Range;
 use std::path::Path;
 
-/// A book, a bundle and the lengths of all that is lent.
+/// A book, a fugitive table, a bundle and the lengths of all that is lent.
 #[derive(Clone, Debug, Hash)]
 pub struct BundleCase {
     pub book: Vec<u8>,
+    pub fugitive: Vec<u8>,
     pub bundle: Vec<u8>,
     pub exact_len: usize,
     pub shown_len: usize,
@@ -34,13 +35,19 @@ pub struct FilledBundle {
 const USUAL_CELLS: usize = MOST_SHEETS * MOST_CELLS;
 
 impl BundleCase {
-    /// A case with a little more room than the bundle needs, up to what the
-    /// program lends.
+    /// A case without fugitive dust and with a little more room than the bundle
+    /// needs, up to what the program lends.
     pub fn with_room(book: Vec<u8>, bundle: Vec<u8>) -> Self {
-        let case = BundleCase { book, bundle, exact_len: 0, shown_len: 0, outcomes_len: 0 };
+        let fugitive = NO_FUGITIVE.to_vec();
+        let (exact_len, shown_len, outcomes_len) = (0, 0, 0);
+        let case = BundleCase { book, fugitive, bundle, exact_len, shown_len, outcomes_len };
         let cells = case.sheet_count().saturating_mul(case.cells_per_sheet()).min(USUAL_CELLS);
         let sheets = case.sheet_count().min(MOST_SHEETS);
         case.with_lengths(cells + 3, cells + 5, sheets + 2)
+    }
+
+    pub fn with_fugitive(self, fugitive: Vec<u8>) -> Self {
+        BundleCase { fugitive, ..self }
     }
 
     pub fn with_lengths(self, exact_len: usize, shown_len: usize, outcomes_len: usize) -> Self {
@@ -72,7 +79,8 @@ impl BundleCase {
         let (offset, length) = (self.number(12 + 8 * index), self.number(16 + 8 * index));
         let sheet = self.bundle[offset..offset + length].to_vec();
         let cells = self.cells_per_sheet();
-        Case { book: self.book.clone(), sheet, exact_len: cells, shown_len: cells }
+        let case = Case::with_room(self.book.clone(), sheet).with_fugitive(self.fugitive.clone());
+        case.with_lengths(cells, cells)
     }
 
     /// What the bundle's call has left for one sheet.
@@ -88,7 +96,7 @@ impl BundleCase {
     pub fn read(folder: &Path) -> io::Result<Self> {
         let book = fs::read(folder.join("book.bin"))?;
         let bundle = fs::read(folder.join("bundle.bin"))?;
-        let case = BundleCase::with_room(book, bundle);
+        let case = BundleCase::with_room(book, bundle).with_fugitive(read_fugitive(folder));
         match kept_lengths(folder)? {
             Some([exact, shown, outcomes]) => Ok(case.with_lengths(exact, shown, outcomes)),
             None => Ok(case),
@@ -99,27 +107,31 @@ impl BundleCase {
         let mut exact: Vec<u64> = earlier_cells(self.exact_len).collect();
         let mut shown: Vec<u64> = earlier_cells(self.shown_len).collect();
         let mut outcomes: Vec<u64> = earlier_cells(self.outcomes_len).collect();
+        let BundleCase { book, fugitive, bundle, .. } = self;
+        let (exact_cells, shown_cells) = (&mut exact, &mut shown);
         let answer =
-            plain::account_bundle(&self.book, &self.bundle, &mut exact, &mut shown, &mut outcomes);
+            plain::account_bundle(book, fugitive, bundle, exact_cells, shown_cells, &mut outcomes);
         FilledBundle { outcome: outcome_of(answer), exact, shown, outcomes }
     }
 
     /// Runs the proved desk, and checks that nothing around the lent cells and
     /// nothing in or around the files has changed.
     pub fn run_proved(&self) -> Result<FilledBundle, String> {
-        let (book, bundle) = (Lent::file(&self.book), Lent::file(&self.bundle));
+        let files = [&self.book, &self.fugitive, &self.bundle];
+        let lent = files.map(|file| Lent::file(file));
+        let [book, fugitive, bundle] = lent.each_ref().map(Lent::middle);
         let lengths = [self.exact_len, self.shown_len, self.outcomes_len];
         let [mut exact, mut shown, mut outcomes] =
             lengths.map(|length| Lent::cells(earlier_cells(length)));
         let outcome = checkraven::account_bundle(
-            book.middle(),
-            bundle.middle(),
+            book,
+            fugitive,
+            bundle,
             exact.middle_mut(),
             shown.middle_mut(),
             outcomes.middle_mut(),
         );
-        let files = [(&book, &self.book), (&bundle, &self.bundle)];
-        check_memory(&files, &[&exact, &shown, &outcomes])?;
+        check_memory(&lent, &files, &[&exact, &shown, &outcomes])?;
         let [exact, shown, outcomes] = [exact, shown, outcomes].map(|lent| lent.middle().to_vec());
         Ok(FilledBundle { outcome, exact, shown, outcomes })
     }
@@ -178,6 +190,7 @@ impl AnyCase for BundleCase {
     fn write(&self, folder: &Path) -> io::Result<()> {
         fs::create_dir_all(folder)?;
         fs::write(folder.join("book.bin"), &self.book)?;
+        fs::write(folder.join("fugitive.bin"), &self.fugitive)?;
         fs::write(folder.join("bundle.bin"), &self.bundle)?;
         keep_lengths(folder, [self.exact_len, self.shown_len, self.outcomes_len])
     }

@@ -7,7 +7,7 @@ mod tally;
 mod text;
 
 use crate::{demand3, plain};
-use checkraven::Outcome;
+use checkraven::{cells_for, Outcome, MOST_LINES, NO_FUGITIVE};
 use lent::{earlier_cell, Lent};
 use std::fs;
 use std::hash::{DefaultHasher, Hash, Hasher};
@@ -27,23 +27,30 @@ pub trait AnyCase: Hash {
     fn write(&self, folder: &Path) -> io::Result<()>;
 }
 
-/// Two files and the lengths of the two results.
+/// Three files and the lengths of the two results.
 #[derive(Clone, Debug, Hash)]
 pub struct Case {
     pub book: Vec<u8>,
+    pub fugitive: Vec<u8>,
     pub sheet: Vec<u8>,
     pub exact_len: usize,
     pub shown_len: usize,
 }
 
 impl Case {
-    /// A case whose results have a little more room than the sheet needs.
+    /// A case without fugitive dust whose results have a little more room than the
+    /// sheet needs.
     pub fn with_room(book: Vec<u8>, sheet: Vec<u8>) -> Self {
-        let mut case = Case { book, sheet, exact_len: 0, shown_len: 0 };
-        let cells = 4 * (case.line_count().min(128) + 1);
+        let fugitive = NO_FUGITIVE.to_vec();
+        let mut case = Case { book, fugitive, sheet, exact_len: 0, shown_len: 0 };
+        let cells = cells_for(case.line_count().min(MOST_LINES));
         case.exact_len = cells + 3;
         case.shown_len = cells + 5;
         case
+    }
+
+    pub fn with_fugitive(self, fugitive: Vec<u8>) -> Self {
+        Case { fugitive, ..self }
     }
 
     pub fn with_lengths(self, exact_len: usize, shown_len: usize) -> Self {
@@ -67,7 +74,7 @@ impl Case {
     pub fn read(folder: &Path) -> io::Result<Self> {
         let book = fs::read(folder.join("book.bin"))?;
         let sheet = fs::read(folder.join("sheet.bin"))?;
-        let case = Case::with_room(book, sheet);
+        let case = Case::with_room(book, sheet).with_fugitive(read_fugitive(folder));
         match kept_lengths(folder)? {
             Some([exact_len, shown_len]) => Ok(case.with_lengths(exact_len, shown_len)),
             None => Ok(case),
@@ -89,6 +96,7 @@ impl AnyCase for Case {
     fn write(&self, folder: &Path) -> io::Result<()> {
         fs::create_dir_all(folder)?;
         fs::write(folder.join("book.bin"), &self.book)?;
+        fs::write(folder.join("fugitive.bin"), &self.fugitive)?;
         fs::write(folder.join("sheet.bin"), &self.sheet)?;
         keep_lengths(folder, [self.exact_len, self.shown_len])
     }
@@ -104,7 +112,8 @@ pub struct Filled {
 pub fn run_plain(case: &Case) -> Filled {
     let mut exact: Vec<u64> = earlier_cells(case.exact_len).collect();
     let mut shown: Vec<u64> = earlier_cells(case.shown_len).collect();
-    let answer = plain::account(&case.book, &case.sheet, &mut exact, &mut shown);
+    let Case { book, fugitive, sheet, .. } = case;
+    let answer = plain::account(book, fugitive, sheet, &mut exact, &mut shown);
     Filled { outcome: outcome_of(answer), exact, shown }
 }
 
@@ -124,17 +133,23 @@ pub fn run_proved(case: &Case) -> Result<Filled, String> {
 /// The same, with results that hold the earlier cells from `first` on.
 fn run_proved_from(case: &Case, first: usize) -> Result<Filled, String> {
     let earlier = |length| (first..first + length).map(earlier_cell);
-    let (book, sheet) = (Lent::file(&case.book), Lent::file(&case.sheet));
+    let files = [&case.book, &case.fugitive, &case.sheet];
+    let lent = files.map(|file| Lent::file(file));
+    let [book, fugitive, sheet] = lent.each_ref().map(Lent::middle);
     let mut exact = Lent::cells(earlier(case.exact_len));
     let mut shown = Lent::cells(earlier(case.shown_len));
     let outcome =
-        checkraven::account(book.middle(), sheet.middle(), exact.middle_mut(), shown.middle_mut());
-    check_memory(&[(&book, &case.book), (&sheet, &case.sheet)], &[&exact, &shown])?;
+        checkraven::account(book, fugitive, sheet, exact.middle_mut(), shown.middle_mut());
+    check_memory(&lent, &files, &[&exact, &shown])?;
     Ok(Filled { outcome, exact: exact.middle().to_vec(), shown: shown.middle().to_vec() })
 }
 
-fn check_memory(files: &[(&Lent<u8>, &Vec<u8>)], results: &[&Lent<u64>]) -> Result<(), String> {
-    if !files.iter().all(|(lent, file)| lent.is_still(file)) {
+fn check_memory(
+    lent: &[Lent<u8>],
+    files: &[&Vec<u8>],
+    results: &[&Lent<u64>],
+) -> Result<(), String> {
+    if !lent.iter().zip(files).all(|(lent, file)| lent.is_still(file)) {
         return Err("a lent file, or memory around it, has changed".to_string());
     }
     if !results.iter().all(|result| result.margins_hold()) {
@@ -165,7 +180,7 @@ fn check_lent_cells(case: &Case, result: &Filled, first: usize) -> Result<(), St
     if !result.outcome.is_accepted() {
         return check_zero(&[&result.exact, &result.shown]);
     }
-    let cells = 4 * (case.line_count() + 1);
+    let cells = cells_for(case.line_count());
     if result.exact.len() < cells || result.shown.len() < cells {
         return Err("accepted without room for the tables".to_string());
     }
@@ -185,6 +200,11 @@ fn check_zero(results: &[&[u64]]) -> Result<(), String> {
 fn check_kept(cells: &[u64], end: usize, first: usize) -> Result<(), String> {
     let kept = (end..cells.len()).all(|at| cells[at] == earlier_cell(first + at));
     kept.then_some(()).ok_or("cells past what is written haven't kept their values".to_string())
+}
+
+/// A folder's fugitive table, which counts as empty where there is none.
+fn read_fugitive(folder: &Path) -> Vec<u8> {
+    fs::read(folder.join("fugitive.bin")).unwrap_or_default()
 }
 
 /// Writes a case on which the desks disagree, so that it can be replayed.

@@ -4,10 +4,10 @@
 use super::lent::{earlier_bytes, earlier_cells, Lent};
 use super::{
     check_answers, check_lent_cells, check_memory, check_same_cells, keep_lengths, kept_lengths,
-    outcome_of, run_proved, AnyCase, Case, Filled,
+    outcome_of, read_fugitive, run_proved, AnyCase, Case, Filled,
 };
 use crate::{plain, rfc4180};
-use checkraven::{Outcome, Refused, MOST_CELLS, MOST_SHEET, MOST_SHEET_TEXT};
+use checkraven::{Outcome, Refused, MOST_CELLS, MOST_SHEET, MOST_SHEET_TEXT, NO_FUGITIVE};
 use std::fs;
 use std::io;
 use std::path::Path;
@@ -69,10 +69,10 @@ impl Conversion {
         Conversion { way: Way::Read, input: text.to_vec(), room }
     }
 
-    /// With room: neither the first record nor that of a line has more than twice
-    /// the bytes of the header or the line.
+    /// With room: neither the first record nor that of a line has more than three
+    /// times the bytes of the header or the line.
     pub fn write(sheet: &[u8]) -> Self {
-        let room = (2 * sheet.len()).min(MOST_SHEET_TEXT) + 3;
+        let room = (3 * sheet.len()).min(MOST_SHEET_TEXT) + 3;
         Conversion { way: Way::Write, input: sheet.to_vec(), room }
     }
 
@@ -111,15 +111,17 @@ impl Conversion {
     /// Runs the proved desk, and checks that nothing around the lent bytes and
     /// nothing in or around the file has changed.
     pub fn run_proved(&self) -> Result<Converted, String> {
-        let file = Lent::file(&self.input);
+        let file = [Lent::file(&self.input)];
+        let input = file[0].middle();
         let mut lent = Lent::bytes(earlier_bytes(self.room));
-        let answer = match self.way {
-            Way::Read => checkraven::sheet_from_text_into(file.middle(), lent.middle_mut())
-                .map(|sheet| sheet.len()),
-            Way::Write => checkraven::text_from_sheet_into(file.middle(), lent.middle_mut())
-                .map(|text| text.len()),
-        };
-        check_memory(&[(&file, &self.input)], &[])?;
+        let answer =
+            match self.way {
+                Way::Read => checkraven::sheet_from_text_into(input, lent.middle_mut())
+                    .map(|sheet| sheet.len()),
+                Way::Write => checkraven::text_from_sheet_into(input, lent.middle_mut())
+                    .map(|text| text.len()),
+            };
+        check_memory(&file, &[&self.input], &[])?;
         if !lent.margins_hold() {
             return Err("memory around the lent bytes has changed".to_string());
         }
@@ -171,19 +173,26 @@ impl AnyCase for Conversion {
     }
 }
 
-/// A book, a text sheet and the lengths of the two results.
+/// A book, a fugitive table, a text sheet and the lengths of the two results.
 #[derive(Clone, Debug, Hash)]
 pub struct TextCase {
     pub book: Vec<u8>,
+    pub fugitive: Vec<u8>,
     pub text: Vec<u8>,
     pub exact_len: usize,
     pub shown_len: usize,
 }
 
 impl TextCase {
-    /// A case whose results have more room than any sheet needs.
+    /// A case without fugitive dust whose results have more room than any sheet
+    /// needs.
     pub fn with_room(book: Vec<u8>, text: Vec<u8>) -> Self {
-        TextCase { book, text, exact_len: MOST_CELLS + 3, shown_len: MOST_CELLS + 5 }
+        let (exact_len, shown_len) = (MOST_CELLS + 3, MOST_CELLS + 5);
+        TextCase { book, fugitive: NO_FUGITIVE.to_vec(), text, exact_len, shown_len }
+    }
+
+    pub fn with_fugitive(self, fugitive: Vec<u8>) -> Self {
+        TextCase { fugitive, ..self }
     }
 
     pub fn with_lengths(self, exact_len: usize, shown_len: usize) -> Self {
@@ -194,14 +203,15 @@ impl TextCase {
     /// none where the text is malformed.
     pub fn with_binary_sheet(&self) -> Case {
         let sheet = Conversion::read(&self.text).run_plain().bytes().to_vec();
-        let TextCase { exact_len, shown_len, .. } = *self;
-        Case { book: self.book.clone(), sheet, exact_len, shown_len }
+        let TextCase { book, fugitive, exact_len, shown_len, .. } = self.clone();
+        Case { book, fugitive, sheet, exact_len, shown_len }
     }
 
     /// Reads a folder again; without lengths the results have room.
     pub fn read(folder: &Path) -> io::Result<Self> {
         let book = fs::read(folder.join("book.bin"))?;
         let case = TextCase::with_room(book, fs::read(folder.join("sheet.csv"))?);
+        let case = case.with_fugitive(read_fugitive(folder));
         match kept_lengths(folder)? {
             Some([exact_len, shown_len]) => Ok(case.with_lengths(exact_len, shown_len)),
             None => Ok(case),
@@ -211,20 +221,22 @@ impl TextCase {
     pub fn run_plain(&self) -> Filled {
         let mut exact: Vec<u64> = earlier_cells(self.exact_len).collect();
         let mut shown: Vec<u64> = earlier_cells(self.shown_len).collect();
-        let answer = plain::account_text(&self.book, &self.text, &mut exact, &mut shown);
+        let TextCase { book, fugitive, text, .. } = self;
+        let answer = plain::account_text(book, fugitive, text, &mut exact, &mut shown);
         Filled { outcome: outcome_of(answer), exact, shown }
     }
 
     /// Runs the proved desk, and checks that nothing around its results and
     /// nothing in or around the files has changed.
     pub fn run_proved(&self) -> Result<Filled, String> {
-        let (book, text) = (Lent::file(&self.book), Lent::file(&self.text));
+        let files = [&self.book, &self.fugitive, &self.text];
+        let lent = files.map(|file| Lent::file(file));
+        let [book, fugitive, text] = lent.each_ref().map(Lent::middle);
         let mut exact = Lent::cells(earlier_cells(self.exact_len));
         let mut shown = Lent::cells(earlier_cells(self.shown_len));
         let (exact_cells, shown_cells) = (exact.middle_mut(), shown.middle_mut());
-        let outcome =
-            checkraven::account_text(book.middle(), text.middle(), exact_cells, shown_cells);
-        check_memory(&[(&book, &self.book), (&text, &self.text)], &[&exact, &shown])?;
+        let outcome = checkraven::account_text(book, fugitive, text, exact_cells, shown_cells);
+        check_memory(&lent, &files, &[&exact, &shown])?;
         Ok(Filled { outcome, exact: exact.middle().to_vec(), shown: shown.middle().to_vec() })
     }
 
@@ -253,6 +265,7 @@ impl AnyCase for TextCase {
     fn write(&self, folder: &Path) -> io::Result<()> {
         fs::create_dir_all(folder)?;
         fs::write(folder.join("book.bin"), &self.book)?;
+        fs::write(folder.join("fugitive.bin"), &self.fugitive)?;
         fs::write(folder.join("sheet.csv"), &self.text)?;
         keep_lengths(folder, [self.exact_len, self.shown_len])
     }
@@ -288,8 +301,8 @@ impl ThereAndBack {
         let filled = run_proved(&case)?;
         let read_again = Case { sheet: again.bytes().to_vec(), ..case.clone() };
         check_alike("the sheet and the one read again", &filled, &run_proved(&read_again)?)?;
-        let Case { book, exact_len, shown_len, .. } = case;
-        let as_text = TextCase { book, text: text.to_vec(), exact_len, shown_len };
+        let Case { book, fugitive, exact_len, shown_len, .. } = case;
+        let as_text = TextCase { book, fugitive, text: text.to_vec(), exact_len, shown_len };
         check_alike("the sheet and its text", &filled, &as_text.agreed()?)
     }
 }

@@ -8,7 +8,7 @@ use crate::compare::Case;
 /// Does one to three damages to a case.
 pub fn damage(random: &mut Random, case: &mut Case) {
     for _ in 0..1 + random.below(3) {
-        match random.below(10) {
+        match random.below(12) {
             0 => change_byte(random, &mut case.book),
             1 => change_byte(random, &mut case.sheet),
             2 => change_header(random, &mut case.book),
@@ -17,6 +17,7 @@ pub fn damage(random: &mut Random, case: &mut Case) {
             5 => change_length(random, case),
             6 => case.exact_len = random.index(case.exact_len + 4),
             7 => case.shown_len = random.index(case.shown_len + 4),
+            8 => damage_table(random, &mut case.fugitive),
             _ => change_line_field(random, &mut case.sheet),
         }
     }
@@ -31,10 +32,23 @@ pub fn damage_sheet(random: &mut Random, sheet: &mut [u8]) {
     }
 }
 
+/// Does one damage to a fugitive table.
+pub fn damage_table(random: &mut Random, table: &mut Vec<u8>) {
+    match random.below(4) {
+        0 => change_byte(random, table),
+        1 => change_length_of(random, table),
+        2 => change_header(random, table),
+        _ => change_entry_field(random, table),
+    }
+}
+
 /// Bytes without form, most often with their own length in front so that more
 /// than the length is looked at.
 pub fn formless_case(random: &mut Random) -> Case {
     let mut case = Case::with_room(formless_file(random), formless_file(random));
+    if random.chance(50) {
+        case.fugitive = formless_file(random);
+    }
     if random.chance(10) {
         case.exact_len = random.index(20);
         case.shown_len = random.index(20);
@@ -99,6 +113,17 @@ fn change_book_field(random: &mut Random, book: &mut [u8]) {
     change_field(random, book, row + at, width);
 }
 
+fn change_entry_field(random: &mut Random, table: &mut [u8]) {
+    let offset = u32_at(table, 8) as usize;
+    let entries = u16_at(table, 4) as usize;
+    if entries == 0 {
+        return change_header(random, table);
+    }
+    let entry = offset + 28 * random.index(entries);
+    let field = 2 * random.index(14);
+    change_field(random, table, entry + field, 2);
+}
+
 fn change_line_field(random: &mut Random, sheet: &mut [u8]) {
     let line_offset = u32_at(sheet, 8) as usize;
     let lines = u16_at(sheet, 4) as usize;
@@ -122,6 +147,9 @@ fn change_line_field(random: &mut Random, sheet: &mut [u8]) {
         (16, 8),
         (24, 8),
         (56, 1),
+        (57, 1),
+        (58, 1),
+        (59, 1),
         (63, 1),
     ]);
     change_field(random, sheet, line + at, width);

@@ -1,5 +1,7 @@
-//! Seeded generators of well-formed books and of sheets that are accepted.
+//! Seeded generators of well-formed books and of sheets that are accepted, with and
+//! without fugitive dust.
 
+use super::fugitive::{self, Fugitive};
 use super::parts::{Book, Line, Row, Sheet, Technique};
 use super::random::Random;
 use crate::compare::Case;
@@ -26,8 +28,9 @@ pub fn case_up_to(random: &mut Random, most: Size) -> Case {
 /// A case that is accepted. A book without rows has a sheet without lines.
 pub fn case(random: &mut Random, size: Size) -> Case {
     let book = book(random, size.rows, size.techniques);
-    let sheet = sheet(random, &book, size.lines);
-    Case::of(&book, &sheet)
+    let table = fugitive::table(random, &book);
+    let sheet = graded_sheet(random, &book, &table, size.lines);
+    Case::of(&book, &sheet).with_fugitive(table.bytes())
 }
 
 pub fn book(random: &mut Random, rows: usize, techniques: usize) -> Book {
@@ -66,13 +69,23 @@ fn technique_runs(random: &mut Random, count: usize) -> (Vec<Technique>, Vec<Ran
 
 type Key = ([u16; 4], u16, u8, u8);
 
+const GAS: u8 = 2;
+const PARTICULATES: u8 = 3;
+
+/// Particulates in gas as often as all others together.
+fn medium_and_pollutant(random: &mut Random) -> (u8, u8) {
+    match random.chance(50) {
+        true => (GAS, PARTICULATES),
+        false => (1 + random.below(3) as u8, 1 + random.up_to(254) as u8),
+    }
+}
+
 /// Keys from a few values of each part, so that many rows have one pollutant
 /// in one medium and share their place with other scales.
 fn row_keys(random: &mut Random, count: usize) -> BTreeSet<Key> {
     let values = if random.chance(30) { wide_values(random) } else { [1, 2, 3, 4, 5, 6, 7, 8] };
     let scales = [0, values[0], values[1], values[2]];
-    let medium = 1 + random.below(3) as u8;
-    let pollutant = 1 + random.up_to(254) as u8;
+    let (medium, pollutant) = medium_and_pollutant(random);
     let mut keys = BTreeSet::new();
     while keys.len() < count {
         let place = [0; 4].map(|_| random.pick(&values));
@@ -120,11 +133,20 @@ fn row(random: &mut Random, key: Key, runs: &[Range<usize>]) -> Row {
     row.with_techniques(1 + random.below(2) as u8, first as u16, number as u16)
 }
 
+/// A sheet without grades.
 pub fn sheet(random: &mut Random, book: &Book, lines: usize) -> Sheet {
+    graded_sheet(random, book, &Fugitive::default(), lines)
+}
+
+/// A sheet whose lines have grades where they may.
+pub fn graded_sheet(random: &mut Random, book: &Book, table: &Fugitive, lines: usize) -> Sheet {
     let unit = 1 + random.below(3) as u32;
     let gaps = if random.chance(50) { [0; 2] } else { [0; 2].map(|_| random.index(70)) };
     let (medium, pollutant, lines) = match book.rows.len() {
-        0 => (1 + random.below(3) as u8, 1 + random.up_to(254) as u8, 0),
+        0 => {
+            let (medium, pollutant) = medium_and_pollutant(random);
+            (medium, pollutant, 0)
+        }
         rows => {
             let row = &book.rows[random.index(rows)];
             (row.medium, row.pollutant, lines)
@@ -132,8 +154,18 @@ pub fn sheet(random: &mut Random, book: &Book, lines: usize) -> Sheet {
     };
     let rows: Vec<&Row> =
         book.rows.iter().filter(|row| (row.medium, row.pollutant) == (medium, pollutant)).collect();
-    let lines = (0..lines).map(|_| line(random, book, &rows)).collect();
+    let mut lines: Vec<Line> = (0..lines).map(|_| line(random, book, &rows)).collect();
+    if (medium, pollutant) == (GAS, PARTICULATES) {
+        lines.iter_mut().for_each(|line| grade(random, table, line));
+    }
     Sheet { medium, pollutant, unit, lines, gaps }
+}
+
+/// A line of particulates in gas is graded more often than not.
+fn grade(random: &mut Random, table: &Fugitive, line: &mut Line) {
+    if table.has_entry_for(line.place, line.scale) && random.chance(80) {
+        line.grades = fugitive::grades(random);
+    }
 }
 
 /// A line whose row is among the sheet's.
@@ -154,7 +186,8 @@ fn line(random: &mut Random, book: &Book, rows: &[&Row]) -> Line {
         material: random.up_to(1_000_000_000),
         // Not looked at with direct discharge.
         readings: [0; 3].map(|_| random.bits()),
-        last_zeros: [0; 8],
+        grades: [0; 3],
+        last_zeros: [0; 5],
     };
     if row.number == 0 || random.chance(15) {
         return line;

@@ -1,9 +1,10 @@
-//! Books, sheets, bundles and texts made for tests: builders for single cases, seeded
+//! Books, fugitive tables, sheets, bundles and texts made for tests: builders for single cases, seeded
 //! generators for many, and damages.
 
 mod bundle;
 pub mod damage;
 pub mod edges;
+pub mod fugitive;
 pub mod generate;
 mod parts;
 mod random;
@@ -12,6 +13,7 @@ pub mod two_kinds;
 pub mod works;
 
 pub use bundle::Bundle;
+pub use fugitive::{Entry, Fugitive};
 pub use parts::{Book, Line, Row, Sheet, Technique};
 pub use random::Random;
 
@@ -50,8 +52,9 @@ pub fn any_bundle(random: &mut Random) -> BundleCase {
 /// A case whose sheet is typed as text, some of the texts damaged.
 pub fn any_text_case(random: &mut Random) -> TextCase {
     let size = any_size(random);
-    let Case { book, sheet, exact_len, shown_len } = generate::case_up_to(random, size);
-    TextCase { book, text: any_text(random, &sheet), exact_len, shown_len }
+    let case = generate::case_up_to(random, size);
+    let Case { book, fugitive, sheet, exact_len, shown_len } = case;
+    TextCase { book, fugitive, text: any_text(random, &sheet), exact_len, shown_len }
 }
 
 fn any_text(random: &mut Random, sheet: &[u8]) -> Vec<u8> {

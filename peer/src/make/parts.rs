@@ -45,7 +45,9 @@ pub struct Line {
     pub material: u64,
     /// The bits of a, b and c.
     pub readings: [u64; 3],
-    pub last_zeros: [u8; 8],
+    /// Of crushing and feeding, tapping, furnace spill.
+    pub grades: [u8; 3],
+    pub last_zeros: [u8; 5],
 }
 
 #[derive(Clone, Debug)]
@@ -137,7 +139,8 @@ impl Line {
             product,
             material: 0,
             readings: [0; 3],
-            last_zeros: [0; 8],
+            grades: [0; 3],
+            last_zeros: [0; 5],
         }
     }
 
@@ -153,6 +156,7 @@ impl Line {
         for number in [self.product, self.material].iter().chain(&self.readings) {
             bytes.extend(number.to_le_bytes());
         }
+        bytes.extend(self.grades);
         bytes.extend(self.last_zeros);
     }
 }
@@ -180,7 +184,8 @@ impl Sheet {
 }
 
 impl Case {
-    /// A book and a sheet with a little more room than they need.
+    /// A book and a sheet with a little more room than they need, and a fugitive
+    /// table without entries.
     pub fn of(book: &Book, sheet: &Sheet) -> Self {
         Case::with_room(book.bytes(), sheet.bytes())
     }

@@ -15,8 +15,9 @@ pub struct Text {
     pub is_closed: bool,
 }
 
-/// The fields of a line from here on are readings.
+/// The fields of a line from here on are readings, and from there on grades.
 pub const FIRST_READING: usize = 10;
+pub const FIRST_GRADE: usize = 13;
 
 impl Text {
     /// The records of a text that has no quotes.
@@ -49,17 +50,28 @@ impl Text {
     }
 
     /// The same sheet as people type it: leading zeros, places left off, quotes,
-    /// any reading where none is used, the last line break left off.
+    /// any reading where none is used, grades of 0 and the last line break left off.
     pub fn typed(&self, random: &mut Random) -> Self {
         let mut text = self.clone();
         for (record, fields) in text.records.iter_mut().enumerate() {
+            leave_off_grades(random, fields);
             for (index, field) in fields.iter_mut().enumerate() {
-                let is_reading = record > 0 && index >= FIRST_READING;
+                let is_reading = record > 0 && (FIRST_READING..FIRST_GRADE).contains(&index);
                 *field = if is_reading { reading(random, field) } else { numeral(random, field) };
             }
         }
         text.is_closed = random.chance(70);
         text
+    }
+}
+
+/// Those of 0 at the end of a line, some or all.
+fn leave_off_grades(random: &mut Random, fields: &mut Vec<String>) {
+    while fields.len() > FIRST_GRADE && fields.last().is_some_and(|grade| grade == "0") {
+        if random.chance(30) {
+            return;
+        }
+        fields.pop();
     }
 }
 
@@ -153,7 +165,17 @@ fn wide_line(random: &mut Random) -> Line {
         product: random.up_to(u64::MAX),
         material: random.up_to(u64::MAX),
         readings,
-        last_zeros: [0; 8],
+        grades: wide_grades(random),
+        last_zeros: [0; 5],
+    }
+}
+
+/// The writer takes every byte; the desk does not.
+fn wide_grades(random: &mut Random) -> [u8; 3] {
+    match random.below(3) {
+        0 => [0; 3],
+        1 => [0; 3].map(|_| random.below(4) as u8),
+        _ => [0; 3].map(|_| random.up_to(255) as u8),
     }
 }
 

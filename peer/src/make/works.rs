@@ -1,34 +1,45 @@
-//! Seeded generators of whole works, a book and a bundle of sheets, and damages
-//! to them.
+//! Seeded generators of whole works, a book, a fugitive table and a bundle of
+//! sheets, and damages to them.
 
 use super::bundle::Bundle;
+use super::damage::damage_table;
 use super::damage::{change_byte, change_field, change_length_of, damage_sheet};
+use super::fugitive::{self, Fugitive};
 use super::generate::{self, Size};
 use super::parts::Book;
 use super::random::Random;
 use crate::compare::BundleCase;
+use checkraven::cells_for;
 
 /// A works whose bundle is taken, with so many sheets that are all accepted.
 pub fn sound_works(random: &mut Random, sheets: usize, most: Size) -> BundleCase {
     let book = book_up_to(random, most);
-    let sheets: Vec<Vec<u8>> = (0..sheets).map(|_| sheet_up_to(random, &book, most)).collect();
+    let table = fugitive::table(random, &book);
+    let mut sheet = |_| sheet_up_to(random, &book, &table, most);
+    let sheets: Vec<Vec<u8>> = (0..sheets).map(&mut sheet).collect();
     let more = random.index(5);
-    bundled(random, &book, &sheets, cells_for_all(&sheets) + more)
+    bundled(random, &book, &sheets, cells_for_all(&sheets) + more).with_fugitive(table.bytes())
 }
 
 /// A works whose bundle is taken. Any of its sheets may be damaged or empty,
-/// its runs may be too short for some of them, and now and then the book is bad.
+/// its runs may be too short for some of them, and now and then the book or the
+/// fugitive table is bad.
 pub fn mixed_works(random: &mut Random, most: Size) -> BundleCase {
     let book = book_up_to(random, most);
+    let table = fugitive::table(random, &book);
     let count = random.up_to(16) as usize;
-    let sheets: Vec<Vec<u8>> = (0..count).map(|_| any_sheet(random, &book, most)).collect();
+    let mut sheet = |_| any_sheet(random, &book, &table, most);
+    let sheets: Vec<Vec<u8>> = (0..count).map(&mut sheet).collect();
     let cells = match random.below(4) {
         0 => random.index(cells_for_all(&sheets) + 9),
         _ => cells_for_all(&sheets),
     };
-    let mut case = bundled(random, &book, &sheets, cells);
+    let mut case = bundled(random, &book, &sheets, cells).with_fugitive(table.bytes());
     if random.chance(5) {
         change_byte(random, &mut case.book);
+    }
+    if random.chance(5) {
+        damage_table(random, &mut case.fugitive);
     }
     case
 }
@@ -41,16 +52,16 @@ fn book_up_to(random: &mut Random, most: Size) -> Book {
 /// As many lines as may stand in each of 16 sheets within 65,536 bytes.
 const MOST_LINES: usize = 60;
 
-fn sheet_up_to(random: &mut Random, book: &Book, most: Size) -> Vec<u8> {
+fn sheet_up_to(random: &mut Random, book: &Book, table: &Fugitive, most: Size) -> Vec<u8> {
     let lines = random.index(most.lines.min(MOST_LINES) + 1);
-    generate::sheet(random, book, lines).bytes()
+    generate::graded_sheet(random, book, table, lines).bytes()
 }
 
-fn any_sheet(random: &mut Random, book: &Book, most: Size) -> Vec<u8> {
+fn any_sheet(random: &mut Random, book: &Book, table: &Fugitive, most: Size) -> Vec<u8> {
     if random.chance(5) {
         return vec![];
     }
-    let mut sheet = sheet_up_to(random, book, most);
+    let mut sheet = sheet_up_to(random, book, table, most);
     if random.chance(30) {
         damage_sheet(random, &mut sheet);
     }
@@ -60,7 +71,7 @@ fn any_sheet(random: &mut Random, book: &Book, most: Size) -> Vec<u8> {
 /// Cells per sheet that are enough for the sheet with the most bytes.
 fn cells_for_all(sheets: &[Vec<u8>]) -> usize {
     let most_bytes = sheets.iter().map(Vec::len).max().unwrap_or(0);
-    4 * (most_bytes / 64 + 1)
+    cells_for(most_bytes / 64)
 }
 
 fn bundled(random: &mut Random, book: &Book, sheets: &[Vec<u8>], cells: usize) -> BundleCase {

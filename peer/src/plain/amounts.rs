@@ -1,6 +1,7 @@
-//! The four amounts of a line, in units of 10 micrograms.
+//! The five amounts of a line, in units of 10 micrograms.
 
 use super::reading::Fraction;
+use super::COLUMNS;
 
 #[derive(Clone, Copy, Debug, Default, PartialEq, Eq)]
 pub struct Amounts {
@@ -8,6 +9,7 @@ pub struct Amounts {
     pub removed: u64,
     pub reused: u64,
     pub discharged: u64,
+    pub fugitive: u64,
 }
 
 /// G × efficiency × n / (1000 d), rounded down: at most 10^17 × 10^3 × 10^13
@@ -25,18 +27,26 @@ impl Amounts {
         let left = generated - removed;
         let reuse = reuse.unwrap_or(0) as u64;
         let reused = left / 1000 * reuse + left % 1000 * reuse / 1000;
-        Amounts { generated, removed, reused, discharged: left - reused }
+        Amounts { generated, removed, reused, discharged: left - reused, fugitive: 0 }
     }
 
-    /// Sums of 128 lines stay below 128 × 10^17, which u64 holds.
+    /// The same with dust that never meets a duct: it is generated, and no other
+    /// amount is worked from it.
+    pub fn with_fugitive(self, fugitive: u64) -> Self {
+        Amounts { generated: self.generated + fugitive, fugitive, ..self }
+    }
+
+    /// Sums of 128 lines stay below 128 × (10^17 + 3 × 65,535 × 100 × 10^9), which
+    /// u64 holds.
     pub fn add(&mut self, line: &Amounts) {
         self.generated += line.generated;
         self.removed += line.removed;
         self.reused += line.reused;
         self.discharged += line.discharged;
+        self.fugitive += line.fugitive;
     }
 
-    pub fn cells(&self) -> [u64; 4] {
-        [self.generated, self.removed, self.reused, self.discharged]
+    pub fn cells(&self) -> [u64; COLUMNS] {
+        [self.generated, self.removed, self.reused, self.discharged, self.fugitive]
     }
 }

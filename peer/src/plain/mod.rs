@@ -5,12 +5,14 @@ mod amounts;
 mod book;
 mod bundle;
 mod bytes;
+mod fugitive;
 pub mod reading;
 mod sheet;
 mod shown;
 mod text;
 
 use book::Book;
+use fugitive::{Grades, Table};
 use sheet::{Line, Sheet};
 
 pub use amounts::Amounts;
@@ -47,12 +49,18 @@ pub const BAD_READING: u32 = 9;
 pub const ZERO_DIVISOR: u32 = 10;
 pub const K_ABOVE_ONE: u32 = 11;
 pub const TEXT_MALFORMED: u32 = 12;
+pub const FUGITIVE_MALFORMED: u32 = 13;
+pub const NO_FUGITIVE_ENTRY: u32 = 14;
+pub const BAD_GRADE: u32 = 15;
 pub const BUNDLE_MALFORMED: u32 = 16;
 
 /// All house files have this limit.
 const MOST_BYTES: usize = 65_536;
 const MOST_KILOGRAMS: u64 = 1_000_000_000;
 const MOST_REUSE: u16 = 1000;
+
+/// Cells of a row: G, R, U, D, F.
+const COLUMNS: usize = 5;
 
 /// The shown units in units of 10 micrograms.
 const GRAM: u64 = 100_000;
@@ -63,21 +71,40 @@ const TONNE: u64 = 100_000_000_000;
 /// acceptance cells past the tables keep their values.
 pub fn account(
     book: &[u8],
+    fugitive: &[u8],
     sheet: &[u8],
     exact: &mut [u64],
     shown: &mut [u64],
 ) -> Result<(), Refusal> {
-    account_with(Book::read(book).as_ref(), sheet, exact, shown)
+    account_with(&Published::read(book, fugitive), sheet, exact, shown)
 }
 
-/// The same with a book that was read before, `None` where it is malformed.
+/// What is read once for all sheets, `None` where it is malformed.
+struct Published<'a> {
+    book: Option<Book<'a>>,
+    fugitive: Option<Table<'a>>,
+}
+
+impl<'a> Published<'a> {
+    fn read(book: &'a [u8], fugitive: &'a [u8]) -> Self {
+        Published { book: Book::read(book), fugitive: Table::read(fugitive) }
+    }
+
+    /// Both, or the refusal of the first that is malformed.
+    fn both(&self) -> Result<(&Book<'a>, &Table<'a>), Refusal> {
+        let book = self.book.as_ref().ok_or(Refusal::whole_file(BOOK_MALFORMED))?;
+        let fugitive = self.fugitive.as_ref().ok_or(Refusal::whole_file(FUGITIVE_MALFORMED))?;
+        Ok((book, fugitive))
+    }
+}
+
 fn account_with(
-    book: Option<&Book>,
+    published: &Published,
     sheet: &[u8],
     exact: &mut [u64],
     shown: &mut [u64],
 ) -> Result<(), Refusal> {
-    let answer = fill_tables(book, sheet, exact, shown);
+    let answer = fill_tables(published, sheet, exact, shown);
     if answer.is_err() {
         exact.fill(0);
         shown.fill(0);
@@ -86,27 +113,32 @@ fn account_with(
 }
 
 fn fill_tables(
-    book: Option<&Book>,
+    published: &Published,
     sheet: &[u8],
     exact: &mut [u64],
     shown: &mut [u64],
 ) -> Result<(), Refusal> {
-    let book = book.ok_or(Refusal::whole_file(BOOK_MALFORMED))?;
+    let (book, fugitive) = published.both()?;
     let sheet = Sheet::read(sheet).ok_or(Refusal::whole_file(SHEET_MALFORMED))?;
-    let cells = 4 * (sheet.line_count() + 1);
+    let cells = COLUMNS * (sheet.line_count() + 1);
     if exact.len() < cells || shown.len() < cells {
         return Err(Refusal::whole_file(RESULT_TOO_SHORT));
     }
-    fill_exact(book, &sheet, &mut exact[..cells])?;
+    fill_exact(book, fugitive, &sheet, &mut exact[..cells])?;
     shown::fill(&exact[..cells], sheet.shown_unit, &mut shown[..cells]);
     Ok(())
 }
 
-fn fill_exact(book: &Book, sheet: &Sheet, exact: &mut [u64]) -> Result<(), Refusal> {
-    let (rows, sums) = exact.split_at_mut(4 * sheet.line_count());
+fn fill_exact(
+    book: &Book,
+    fugitive: &Table,
+    sheet: &Sheet,
+    exact: &mut [u64],
+) -> Result<(), Refusal> {
+    let (rows, sums) = exact.split_at_mut(COLUMNS * sheet.line_count());
     let mut total = Amounts::default();
-    for (index, (line, cells)) in sheet.lines().zip(rows.chunks_exact_mut(4)).enumerate() {
-        let amounts = line_amounts(book, sheet, &line)
+    for (index, (line, cells)) in sheet.lines().zip(rows.chunks_exact_mut(COLUMNS)).enumerate() {
+        let amounts = line_amounts(book, fugitive, sheet, &line)
             .map_err(|number| Refusal { number, line: index as u32 + 1 })?;
         cells.copy_from_slice(&amounts.cells());
         total.add(&amounts);
@@ -116,14 +148,19 @@ fn fill_exact(book: &Book, sheet: &Sheet, exact: &mut [u64]) -> Result<(), Refus
 }
 
 /// One line's amounts, or the number of its first refusal.
-fn line_amounts(book: &Book, sheet: &Sheet, line: &Line) -> Result<Amounts, u32> {
+fn line_amounts(book: &Book, fugitive: &Table, sheet: &Sheet, line: &Line) -> Result<Amounts, u32> {
     if line.product > MOST_KILOGRAMS || line.material > MOST_KILOGRAMS {
         return Err(ACTIVITY_TOO_LARGE);
     }
     if line.reuse > MOST_REUSE {
         return Err(REUSE_TOO_LARGE);
     }
+    if !grades_are_taken(sheet, line.grades) {
+        return Err(BAD_GRADE);
+    }
     let row = book.find(line.place, line.scale, sheet.medium, sheet.pollutant).ok_or(NO_ROW)?;
+    let dust = fugitive.coefficient(line.place, line.scale, line.grades);
+    let dust = dust.ok_or(NO_FUGITIVE_ENTRY)? * line.product;
     let activity = if row.by_product { line.product } else { line.material };
     let generated = row.coefficient * activity;
     let removed = match line.technique {
@@ -134,5 +171,11 @@ fn line_amounts(book: &Book, sheet: &Sheet, line: &Line) -> Result<Amounts, u32>
             amounts::removed(generated, efficiency, k)
         }
     };
-    Ok(Amounts::new(generated, removed, sheet.reuses_water().then_some(line.reuse)))
+    let reuse = sheet.reuses_water().then_some(line.reuse);
+    Ok(Amounts::new(generated, removed, reuse).with_fugitive(dust))
+}
+
+fn grades_are_taken(sheet: &Sheet, grades: Grades) -> bool {
+    let most = if sheet.has_fugitive_dust() { fugitive::POOR } else { 0 };
+    grades.iter().all(|&grade| grade <= most)
 }

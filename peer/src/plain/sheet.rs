@@ -2,6 +2,7 @@
 
 use super::book::place;
 use super::bytes::{u16_at, u32_at, u64_at};
+use super::fugitive::Grades;
 use super::{GRAM, KILOGRAM, MOST_BYTES, TONNE};
 
 pub const HEADER: usize = 16;
@@ -9,6 +10,11 @@ pub const LINE: usize = 64;
 pub const MOST_LINES: usize = 128;
 const MOST_KIND: u8 = 3;
 const WATER: u8 = 1;
+const GAS: u8 = 2;
+const PARTICULATES: u8 = 3;
+
+/// Where a line's grades stand; zeros follow them to its end.
+pub const GRADES: usize = 56;
 
 /// A sheet that is well formed.
 pub struct Sheet<'a> {
@@ -31,6 +37,7 @@ pub struct Line {
     pub material: u64,
     /// The bits of a, b and c.
     pub readings: [u64; 3],
+    pub grades: Grades,
 }
 
 impl<'a> Sheet<'a> {
@@ -75,6 +82,10 @@ impl<'a> Sheet<'a> {
     pub fn reuses_water(&self) -> bool {
         self.medium == WATER
     }
+
+    pub fn has_fugitive_dust(&self) -> bool {
+        self.medium == GAS && self.pollutant == PARTICULATES
+    }
 }
 
 fn shown_unit(code: u32) -> Option<u64> {
@@ -87,7 +98,7 @@ fn shown_unit(code: u32) -> Option<u64> {
 }
 
 fn line_is_well_formed(line: &[u8; LINE]) -> bool {
-    line[14] <= MOST_KIND && line[15] == 0 && u64_at(line, 56) == 0
+    line[14] <= MOST_KIND && line[15] == 0 && u64_at(line, GRADES) >> 24 == 0
 }
 
 fn read_line(line: &[u8; LINE]) -> Line {
@@ -100,5 +111,6 @@ fn read_line(line: &[u8; LINE]) -> Line {
         product: u64_at(line, 16),
         material: u64_at(line, 24),
         readings: [32, 40, 48].map(|at| u64_at(line, at)),
+        grades: [0, 1, 2].map(|index| line[GRADES + index]),
     }
 }

@@ -1,4 +1,4 @@
-//! The shown table. Turn the signs of the columns R, U and D, then those of the
+//! The shown table. Turn the signs of the columns R, U, D and F, then those of the
 //! last row: now every row and every column of the exact table sums to 0, so
 //! none can hold exactly one loose (not whole) cell. Loose cells therefore form
 //! closed rounds. Shifting a round by turns up and down
@@ -6,28 +6,31 @@
 //! unit makes at least one cell whole.
 //!
 //! Rows are taken one after another. Among the rows still open there is never
-//! a round, so with four columns at most three of them stay open, and a new
-//! one finds a free place among four.
+//! a round, so with five columns at most four of them stay open, and a new one
+//! finds a free place among five.
 
-use super::{GRAM, KILOGRAM, TONNE};
+use super::{COLUMNS, GRAM, KILOGRAM, TONNE};
 
-const COLUMNS: usize = 4;
-const PLACES: usize = 4;
+const PLACES: usize = 5;
 const GENERATED: usize = 0;
 
-/// A set of cells of the open rows: bit 4 place + column.
-type Cells = u16;
+/// A set of cells of the open rows: bit 8 place + column, since a power of two
+/// divides by a shift.
+type Cells = u64;
+
+const STEP: usize = 8;
+const BITS: usize = Cells::BITS as usize;
 
 /// The cells of place 0, and those of column 0.
-const FIRST_ROW: Cells = 0b1111;
-const FIRST_COLUMN: Cells = 0x1111;
+const FIRST_ROW: Cells = 0b11111;
+const FIRST_COLUMN: Cells = 0x01_01_01_01_01;
 
 /// The open rows. A part is what a cell has above the whole unit below: 0 or
 /// `UNIT` for a whole cell, between them for a loose one.
 struct Open<const UNIT: u64> {
     loose: Cells,
-    parts: [u64; PLACES * COLUMNS],
-    row_at: [usize; PLACES],
+    parts: [u64; BITS],
+    row_at: [usize; STEP],
     last_row: usize,
 }
 
@@ -62,8 +65,8 @@ fn fill_in<const UNIT: u64>(exact: &[u64], shown: &mut [u64]) {
     let shown = shown.as_chunks_mut::<COLUMNS>().0;
     let mut open = Open::<UNIT> {
         loose: 0,
-        parts: [0; PLACES * COLUMNS],
-        row_at: [0; PLACES],
+        parts: [0; BITS],
+        row_at: [0; STEP],
         last_row: rows.len().saturating_sub(1),
     };
     for (row, cells) in rows.iter().enumerate() {
@@ -78,11 +81,11 @@ fn fill_in<const UNIT: u64>(exact: &[u64], shown: &mut [u64]) {
 
 impl<const UNIT: u64> Open<UNIT> {
     fn take(&mut self, row: usize, parts: [u64; COLUMNS]) {
-        let is_free = |place: &usize| self.loose & FIRST_ROW << (COLUMNS * place) == 0;
-        let place = (0..PLACES).find(is_free).expect("at most three rows stay open");
+        let is_free = |place: &usize| self.loose & FIRST_ROW << (STEP * place) == 0;
+        let place = (0..PLACES).find(is_free).expect("at most four rows stay open");
         self.row_at[place] = row;
         for (column, part) in parts.into_iter().enumerate() {
-            let cell = COLUMNS * place + column;
+            let cell = STEP * place + column;
             self.parts[cell] = part;
             self.loose |= ((part != 0) as Cells) << cell;
         }
@@ -103,23 +106,23 @@ impl<const UNIT: u64> Open<UNIT> {
     fn shift(&mut self, round: &[u8], shown: &mut [[u64; COLUMNS]]) {
         let mut by = UNIT;
         for (turn, &cell) in round.iter().enumerate() {
-            let part = self.parts[cell as usize % self.parts.len()];
+            let part = self.parts[cell as usize % BITS];
             by = by.min(if self.goes_up(turn, cell) { UNIT - part } else { part });
         }
         for (turn, &cell) in round.iter().enumerate() {
             let up = self.goes_up(turn, cell);
-            let part = &mut self.parts[cell as usize % (PLACES * COLUMNS)];
+            let part = &mut self.parts[cell as usize % BITS];
             *part = if up { *part + by } else { *part - by };
             if *part == 0 || *part == UNIT {
                 self.loose &= !(1 << cell);
-                self.write_if_whole(cell as usize / COLUMNS, shown);
+                self.write_if_whole(cell as usize / STEP, shown);
             }
         }
     }
 
     fn write_if_whole(&self, place: usize, shown: &mut [[u64; COLUMNS]]) {
-        if self.loose & FIRST_ROW << (COLUMNS * place) == 0 {
-            let parts = &self.parts[COLUMNS * place..][..COLUMNS];
+        if self.loose & FIRST_ROW << (STEP * place) == 0 {
+            let parts = &self.parts[STEP * place..][..COLUMNS];
             for (cell, &part) in shown[self.row_at[place]].iter_mut().zip(parts) {
                 *cell += (part == UNIT) as u64;
             }
@@ -128,7 +131,7 @@ impl<const UNIT: u64> Open<UNIT> {
 
     /// Up and down alternate in the table with the turned signs.
     fn goes_up(&self, turn: usize, cell: u8) -> bool {
-        let (place, column) = (cell as usize / COLUMNS % PLACES, cell as usize % COLUMNS);
+        let (place, column) = (cell as usize / STEP % STEP, cell as usize % STEP);
         let is_last = self.row_at[place] == self.last_row;
         turn.is_multiple_of(2) ^ is_last ^ (column == GENERATED)
     }
@@ -141,22 +144,22 @@ impl<const UNIT: u64> Open<UNIT> {
 fn find_round(cells: Cells) -> (Walk, usize) {
     const NEVER: usize = usize::MAX;
     let mut walk = Walk { cells: [0; 2 * COLUMNS + 2], length: 0 };
-    let mut left_row = [NEVER; PLACES];
-    let mut left_column = [NEVER; COLUMNS];
+    let mut left_row = [NEVER; STEP];
+    let mut left_column = [NEVER; STEP];
     let mut cell = first(cells);
     loop {
-        let column = cell % COLUMNS;
-        left_row[cell / COLUMNS % PLACES] = walk.push(cell);
+        let column = cell % STEP;
+        left_row[cell / STEP % STEP] = walk.push(cell);
         if left_column[column] != NEVER {
             return (walk, left_column[column]);
         }
         cell = first(cells & FIRST_COLUMN << column & !(1 << cell));
         left_column[column] = walk.push(cell);
-        let row = cell / COLUMNS % PLACES;
+        let row = cell / STEP % STEP;
         if left_row[row] != NEVER {
             return (walk, left_row[row]);
         }
-        cell = first(cells & FIRST_ROW << (COLUMNS * row) & !(1 << cell));
+        cell = first(cells & FIRST_ROW << (STEP * row) & !(1 << cell));
     }
 }
 
@@ -168,8 +171,9 @@ fn first(cells: Cells) -> usize {
 /// away again and again; every round lies within them.
 fn without_dead_ends(mut cells: Cells) -> Cells {
     loop {
-        let in_rows = FIRST_ROW * in_several([0, 1, 2, 3].map(|k| cells >> k & FIRST_COLUMN));
-        let in_columns = FIRST_COLUMN * in_several([0, 4, 8, 12].map(|k| cells >> k & FIRST_ROW));
+        let in_rows = FIRST_ROW * in_several([0, 1, 2, 3, 4].map(|k| cells >> k & FIRST_COLUMN));
+        let columns = [0, 1, 2, 3, 4].map(|place| cells >> (STEP * place) & FIRST_ROW);
+        let in_columns = FIRST_COLUMN * in_several(columns);
         let rest = cells & in_rows & in_columns;
         if rest == cells {
             return cells;
@@ -179,7 +183,7 @@ fn without_dead_ends(mut cells: Cells) -> Cells {
 }
 
 /// What is in two of the sets or more.
-fn in_several(sets: [Cells; 4]) -> Cells {
+fn in_several(sets: [Cells; 5]) -> Cells {
     let (mut in_one, mut in_more) = (0, 0);
     for set in sets {
         in_more |= in_one & set;

@@ -36,13 +36,14 @@ fn lay(made: Result<impl AsRef<[u8]>, Refusal>, lent: &mut [u8]) -> Result<usize
 /// malformed is as an empty file, which no binary sheet is.
 pub fn account_text(
     book: &[u8],
+    fugitive: &[u8],
     text: &[u8],
     exact: &mut [u64],
     shown: &mut [u64],
 ) -> Result<(), Refusal> {
     let read = read::sheet(text);
     let sheet = read.as_ref().map_or(&[][..], AsRef::as_ref);
-    account(book, sheet, exact, shown).map_err(|refusal| match refusal.number {
+    account(book, fugitive, sheet, exact, shown).map_err(|refusal| match refusal.number {
         SHEET_MALFORMED => Refusal::whole_file(TEXT_MALFORMED),
         _ => refusal,
     })

@@ -3,7 +3,7 @@
 //! where it would be taken without them, and nothing else between quotes is.
 
 use crate::plain::reading;
-use crate::plain::sheet::{HEADER, LINE, MOST_LINES};
+use crate::plain::sheet::{GRADES, HEADER, LINE, MOST_LINES};
 use crate::plain::MOST_BYTES;
 
 const MOST_SHEET: usize = HEADER + MOST_LINES * LINE;
@@ -61,7 +61,7 @@ fn read_header(rest: &mut Rest, header: &mut [u8; HEADER]) -> Option<()> {
     Some(())
 }
 
-/// Seven codes, the kind, two activities and three readings.
+/// Seven codes, the kind, two activities, three readings, up to three grades.
 fn read_line(rest: &mut Rest, line: &mut [u8; LINE]) -> Option<()> {
     let mut codes = [0; 7];
     codes[0] = rest.field(Rest::code)?;
@@ -86,7 +86,19 @@ fn read_line(rest: &mut Rest, line: &mut [u8; LINE]) -> Option<()> {
             line[at..at + 8].copy_from_slice(&number.to_bits().to_le_bytes());
         }
     }
+    read_grades(rest, &mut line[GRADES..GRADES + 3])?;
     rest.record_end()
+}
+
+/// Those that are left off stay 0.
+fn read_grades(rest: &mut Rest, grades: &mut [u8]) -> Option<()> {
+    for grade in grades {
+        if rest.0.first() != Some(&b',') {
+            break;
+        }
+        *grade = rest.next_field(|rest| rest.numeral(0, u8::MAX.into()))? as u8;
+    }
+    Some(())
 }
 
 impl Rest<'_> {

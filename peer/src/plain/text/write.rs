@@ -6,7 +6,7 @@ use crate::plain::{Refusal, SHEET_MALFORMED};
 
 /// Digits, points, commas and the line break of the longest record, and of the
 /// first.
-const MOST_RECORD: usize = 7 * 6 + 2 + 2 * 21 + 13 + 10 + 8 + 2;
+const MOST_RECORD: usize = 7 * 6 + 2 + 2 * 21 + 13 + 10 + 8 + 3 * 4 + 2;
 const MOST_FIRST_RECORD: usize = 9;
 
 pub fn text(sheet: &[u8]) -> Result<Vec<u8>, Refusal> {
@@ -42,6 +42,9 @@ fn record(text: &mut Vec<u8>, line: &Line) -> Result<(), u32> {
             Some(&limit) => three_places(text, reading::within(bits, limit)?),
             None => text.push(b'0'),
         }
+    }
+    for grade in line.grades {
+        next_numeral(text, grade.into());
     }
     text.extend(b"\r\n");
     Ok(())

@@ -17,6 +17,21 @@ fn folders_with(file: &str) -> Vec<PathBuf> {
     folders
 }
 
+/// Every example has its fugitive table, and one at least has dust in it.
+#[test]
+fn every_example_has_its_fugitive_table() {
+    let mut with_dust = 0;
+    for folder in folders_with("book.bin") {
+        assert!(folder.join("fugitive.bin").exists(), "{}", folder.display());
+        with_dust += usize::from(has_dust(&expected_text(&folder)));
+    }
+    assert!(with_dust > 0, "an example has fugitive dust");
+}
+
+fn has_dust(expected: &str) -> bool {
+    expected.lines().any(|line| line.starts_with("exact total ") && !line.ends_with(" 0"))
+}
+
 /// The numbers of one table in an expected output.
 fn table(text: &str, name: &str) -> Vec<u64> {
     let rows = text.lines().filter_map(|line| line.strip_prefix(name));

@@ -1,7 +1,7 @@
 //! The paper's own figures, on both desks.
 
 use peer::compare::{run_proved, BundleCase, Case, Tally, TextCase};
-use peer::make::{Book, Line, Row, Sheet, Technique};
+use peer::make::{Book, Entry, Fugitive, Line, Row, Sheet, Technique};
 use peer::print::whole_output;
 use std::fs;
 use std::path::Path;
@@ -104,6 +104,29 @@ fn document_002_runs_throughout() {
         expected: [2973660000000000, 2943923400000000, 0, 29736600000000],
     };
     check(&mut Tally::new("document_002_runs_throughout"), &figure, 2);
+}
+
+/// The same works with the dust of its crushing (good), tapping and furnace spill
+/// (middle), by the manual's own table: R and D stay what they were.
+#[test]
+fn document_002_with_its_fugitive_dust() {
+    let mut tally = Tally::new("document_002_with_its_fugitive_dust");
+    let book = Book {
+        rows: vec![Row::plain(2, 3, 150).with_techniques(1, 0, 1)],
+        techniques: vec![Technique { code: 1, efficiency: 990 }],
+        gaps: [0; 3],
+    };
+    let table = Fugitive::of(&[Entry::plain([786, 1510, 2300, 291, 1100, 1910, 600, 1220, 1830])]);
+    let line = Line::direct(198_244_000).treated(1, 3, [0.0; 3]);
+    let line = Line { grades: [1, 2, 2], ..line };
+    let case = Case::of(&book, &Sheet::new(2, 3, 2, vec![line]));
+    let case = case.with_fugitive(table.bytes());
+    tally.expect_accepted(&case);
+    let filled = run_proved(&case).expect("the memory around is kept");
+    let dust = (786 + 1100 + 1220) * 100 * 198_244_000;
+    assert_eq!(dust, 61574586400000);
+    let row = [2973660000000000 + dust, 2943923400000000, 0, 29736600000000, dust];
+    assert_eq!((&filled.exact[..5], &filled.exact[5..10]), (&row[..], &row[..]));
 }
 
 /// 8784 hours and 10^9 kg are taken, and a little more isn't.

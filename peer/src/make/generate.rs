@@ -1,6 +1,7 @@
 //! Seeded generators of well-formed books and of sheets that are accepted, with and
 //! without fugitive dust.
 
+use super::dust::{GAS, PARTICULATES};
 use super::fugitive::{self, Fugitive};
 use super::parts::{Book, Line, Row, Sheet, Technique};
 use super::random::Random;
@@ -68,9 +69,6 @@ fn technique_runs(random: &mut Random, count: usize) -> (Vec<Technique>, Vec<Ran
 }
 
 type Key = ([u16; 4], u16, u8, u8);
-
-const GAS: u8 = 2;
-const PARTICULATES: u8 = 3;
 
 /// Particulates in gas as often as all others together.
 fn medium_and_pollutant(random: &mut Random) -> (u8, u8) {

@@ -3,6 +3,7 @@
 
 mod bundle;
 pub mod damage;
+pub mod dust;
 pub mod edges;
 pub mod fugitive;
 pub mod generate;

@@ -2,7 +2,7 @@
  * How much stack one call of the library takes: the call is made on a stack of
  * our own that was painted before, and what is no longer painted was used.
  *
- * Usage: stack BOOK SHEET BUNDLE, three files. Prints a line for each function:
+ * Usage: stack BOOK FUGITIVE SHEET BUNDLE, four files. Prints a line for each function:
  * its name, the bytes, and its answer. The text is the one that the library writes
  * of the sheet. Each call is made once before, so that nothing is left to the
  * loader, and on two colours, of which the deeper counts: a byte may be written
@@ -19,7 +19,7 @@ enum { STACK_BYTES = 1 << 18, MOST_BYTES = 1 << 16, RESULT_CELLS = 1 << 14 };
 
 typedef struct { uint8_t bytes[MOST_BYTES + 1]; size_t length; } File;
 
-static File book, sheet, text, bundle;
+static File book, fugitive, sheet, text, bundle;
 static uint64_t exact[RESULT_CELLS], shown[RESULT_CELLS], outcomes[CHECKRAVEN_MOST_SHEETS];
 static uint8_t written[MOST_BYTES];
 static uint8_t *stack;
@@ -43,23 +43,25 @@ static uint64_t nothing(void)
 
 static uint64_t account(void)
 {
-    return checkraven_account(book.bytes, book.length, sheet.bytes, sheet.length, exact, RESULT_CELLS, shown, RESULT_CELLS);
+    return checkraven_account(book.bytes, book.length, fugitive.bytes, fugitive.length, sheet.bytes, sheet.length, exact, RESULT_CELLS,
+                              shown, RESULT_CELLS);
 }
 
 static uint64_t account_text(void)
 {
-    return checkraven_account_text(book.bytes, book.length, text.bytes, text.length, exact, RESULT_CELLS, shown, RESULT_CELLS);
+    return checkraven_account_text(book.bytes, book.length, fugitive.bytes, fugitive.length, text.bytes, text.length, exact, RESULT_CELLS,
+                                   shown, RESULT_CELLS);
 }
 
 static uint64_t account_bundle(void)
 {
-    return checkraven_account_bundle(book.bytes, book.length, bundle.bytes, bundle.length, exact, RESULT_CELLS, shown, RESULT_CELLS,
-                                     outcomes, CHECKRAVEN_MOST_SHEETS);
+    return checkraven_account_bundle(book.bytes, book.length, fugitive.bytes, fugitive.length, bundle.bytes, bundle.length,
+                                     exact, RESULT_CELLS, shown, RESULT_CELLS, outcomes, CHECKRAVEN_MOST_SHEETS);
 }
 
 static uint64_t report(void)
 {
-    return checkraven_report(book.bytes, book.length, sheet.bytes, sheet.length, written, sizeof written);
+    return checkraven_report(book.bytes, book.length, fugitive.bytes, fugitive.length, sheet.bytes, sheet.length, written, sizeof written);
 }
 
 static uint64_t sheet_from_text(void)
@@ -118,11 +120,12 @@ int main(int count, char **words)
         {"checkraven_text_from_sheet", text_from_sheet, 0},
     };
     Entry empty = {"nothing", nothing, 0};
-    if (count != 4 || posix_memalign((void **)&stack, 4096, STACK_BYTES) != 0)
+    if (count != 5 || posix_memalign((void **)&stack, 4096, STACK_BYTES) != 0)
         return 1;
     load(&book, words[1]);
-    load(&sheet, words[2]);
-    load(&bundle, words[3]);
+    load(&fugitive, words[2]);
+    load(&sheet, words[3]);
+    load(&bundle, words[4]);
     text.length = checkraven_text_from_sheet(sheet.bytes, sheet.length, text.bytes, sizeof text.bytes);
     size_t around = deeper(&empty);
     for (size_t i = 0; i < sizeof entries / sizeof *entries; i++) {

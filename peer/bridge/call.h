@@ -9,8 +9,8 @@
 
 enum function { ACCOUNT, ACCOUNT_BUNDLE, REPORT, SHEET_FROM_TEXT, TEXT_FROM_SHEET, ACCOUNT_TEXT };
 
-/* A book, a bundle, two results and the outcomes. */
-#define MOST_PARTS 5
+/* A book, a fugitive table, a bundle, two results and the outcomes. */
+#define MOST_PARTS 6
 
 /* The address of a part differs from the caller's by a multiple of this, so that a part that stands at an odd address does so there too. */
 #define ADDRESS_STEP 16

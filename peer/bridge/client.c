@@ -144,27 +144,31 @@ static struct part cells(uint64_t *cells, size_t count)
     return (struct part){ (uint8_t *)cells, count * sizeof *cells };
 }
 
-uint64_t checkraven_account(const uint8_t *book, size_t book_len, const uint8_t *sheet, size_t sheet_len,
+uint64_t checkraven_account(const uint8_t *book, size_t book_len, const uint8_t *fugitive, size_t fugitive_len,
+                            const uint8_t *sheet, size_t sheet_len,
                             uint64_t *exact, size_t exact_len, uint64_t *shown, size_t shown_len)
 {
-    struct part parts[] = { file(book, book_len), file(sheet, sheet_len), cells(exact, exact_len), cells(shown, shown_len) };
-    return carry(ACCOUNT, 2, 4, parts);
+    struct part parts[] = { file(book, book_len), file(fugitive, fugitive_len), file(sheet, sheet_len),
+                            cells(exact, exact_len), cells(shown, shown_len) };
+    return carry(ACCOUNT, 3, 5, parts);
 }
 
-uint64_t checkraven_account_bundle(const uint8_t *book, size_t book_len, const uint8_t *bundle, size_t bundle_len,
+uint64_t checkraven_account_bundle(const uint8_t *book, size_t book_len, const uint8_t *fugitive, size_t fugitive_len,
+                                   const uint8_t *bundle, size_t bundle_len,
                                    uint64_t *exact, size_t exact_len, uint64_t *shown, size_t shown_len,
                                    uint64_t *outcomes, size_t outcomes_len)
 {
-    struct part parts[] = { file(book, book_len), file(bundle, bundle_len), cells(exact, exact_len), cells(shown, shown_len),
-                            cells(outcomes, outcomes_len) };
-    return carry(ACCOUNT_BUNDLE, 2, 5, parts);
+    struct part parts[] = { file(book, book_len), file(fugitive, fugitive_len), file(bundle, bundle_len),
+                            cells(exact, exact_len), cells(shown, shown_len), cells(outcomes, outcomes_len) };
+    return carry(ACCOUNT_BUNDLE, 3, 6, parts);
 }
 
-uint64_t checkraven_report(const uint8_t *book, size_t book_len, const uint8_t *sheet, size_t sheet_len,
+uint64_t checkraven_report(const uint8_t *book, size_t book_len, const uint8_t *fugitive, size_t fugitive_len,
+                           const uint8_t *sheet, size_t sheet_len,
                            uint8_t *text, size_t text_len)
 {
-    struct part parts[] = { file(book, book_len), file(sheet, sheet_len), { text, text_len } };
-    return carry(REPORT, 2, 3, parts);
+    struct part parts[] = { file(book, book_len), file(fugitive, fugitive_len), file(sheet, sheet_len), { text, text_len } };
+    return carry(REPORT, 3, 4, parts);
 }
 
 uint64_t checkraven_sheet_from_text(const uint8_t *text, size_t text_len, uint8_t *sheet, size_t sheet_len)
@@ -179,9 +183,11 @@ uint64_t checkraven_text_from_sheet(const uint8_t *sheet, size_t sheet_len, uint
     return carry(TEXT_FROM_SHEET, 1, 2, parts);
 }
 
-uint64_t checkraven_account_text(const uint8_t *book, size_t book_len, const uint8_t *text, size_t text_len,
+uint64_t checkraven_account_text(const uint8_t *book, size_t book_len, const uint8_t *fugitive, size_t fugitive_len,
+                                 const uint8_t *text, size_t text_len,
                                  uint64_t *exact, size_t exact_len, uint64_t *shown, size_t shown_len)
 {
-    struct part parts[] = { file(book, book_len), file(text, text_len), cells(exact, exact_len), cells(shown, shown_len) };
-    return carry(ACCOUNT_TEXT, 2, 4, parts);
+    struct part parts[] = { file(book, book_len), file(fugitive, fugitive_len), file(text, text_len),
+                            cells(exact, exact_len), cells(shown, shown_len) };
+    return carry(ACCOUNT_TEXT, 3, 5, parts);
 }

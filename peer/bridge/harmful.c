@@ -5,23 +5,26 @@
 
 #define UNUSED __attribute__((unused))
 
-uint64_t checkraven_account(UNUSED const uint8_t *book, UNUSED size_t book_len, UNUSED const uint8_t *sheet, UNUSED size_t sheet_len,
+uint64_t checkraven_account(UNUSED const uint8_t *book, UNUSED size_t book_len, UNUSED const uint8_t *fugitive,
+                            UNUSED size_t fugitive_len, UNUSED const uint8_t *sheet, UNUSED size_t sheet_len,
                             uint64_t *exact, size_t exact_len, UNUSED uint64_t *shown, UNUSED size_t shown_len)
 {
     exact[exact_len] = 0;
     return 0;
 }
 
-uint64_t checkraven_account_bundle(UNUSED const uint8_t *book, UNUSED size_t book_len, UNUSED const uint8_t *bundle,
-                                   UNUSED size_t bundle_len, UNUSED uint64_t *exact, UNUSED size_t exact_len, UNUSED uint64_t *shown,
-                                   UNUSED size_t shown_len, uint64_t *outcomes, size_t outcomes_len)
+uint64_t checkraven_account_bundle(UNUSED const uint8_t *book, UNUSED size_t book_len, UNUSED const uint8_t *fugitive,
+                                   UNUSED size_t fugitive_len, UNUSED const uint8_t *bundle, UNUSED size_t bundle_len,
+                                   UNUSED uint64_t *exact, UNUSED size_t exact_len, UNUSED uint64_t *shown, UNUSED size_t shown_len,
+                                   uint64_t *outcomes, size_t outcomes_len)
 {
     outcomes[outcomes_len] = 0;
     return 0;
 }
 
-uint64_t checkraven_report(UNUSED const uint8_t *book, UNUSED size_t book_len, UNUSED const uint8_t *sheet, UNUSED size_t sheet_len,
-                           uint8_t *text, UNUSED size_t text_len)
+uint64_t checkraven_report(UNUSED const uint8_t *book, UNUSED size_t book_len, UNUSED const uint8_t *fugitive,
+                           UNUSED size_t fugitive_len, UNUSED const uint8_t *sheet, UNUSED size_t sheet_len, uint8_t *text,
+                           UNUSED size_t text_len)
 {
     text[-1] = 0;
     return 0;
@@ -39,12 +42,13 @@ uint64_t checkraven_text_from_sheet(UNUSED const uint8_t *sheet, UNUSED size_t s
 }
 
 /* The answer is where the files stand, modulo 16; both results are filled. */
-uint64_t checkraven_account_text(const uint8_t *book, UNUSED size_t book_len, const uint8_t *text, UNUSED size_t text_len,
+uint64_t checkraven_account_text(const uint8_t *book, UNUSED size_t book_len, const uint8_t *fugitive, UNUSED size_t fugitive_len,
+                                 const uint8_t *text, UNUSED size_t text_len,
                                  uint64_t *exact, size_t exact_len, uint64_t *shown, size_t shown_len)
 {
     for (size_t i = 0; i < exact_len; i++)
         exact[i] += i;
     for (size_t i = 0; i < shown_len; i++)
         shown[i] += 2 * i;
-    return (uintptr_t)book % 16 * 16 + (uintptr_t)text % 16;
+    return (uintptr_t)book % 16 * 256 + (uintptr_t)fugitive % 16 * 16 + (uintptr_t)text % 16;
 }

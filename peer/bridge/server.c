@@ -110,18 +110,19 @@ static uint64_t make_call(void)
     const uint64_t *length = call.length;
     switch (call.function) {
     case ACCOUNT:
-        return checkraven_account(bytes(0), length[0], bytes(1), length[1], cells(2), count(2), cells(3), count(3));
+        return checkraven_account(bytes(0), length[0], bytes(1), length[1], bytes(2), length[2], cells(3), count(3), cells(4), count(4));
     case ACCOUNT_BUNDLE:
-        return checkraven_account_bundle(bytes(0), length[0], bytes(1), length[1], cells(2), count(2), cells(3), count(3),
-                                         cells(4), count(4));
+        return checkraven_account_bundle(bytes(0), length[0], bytes(1), length[1], bytes(2), length[2], cells(3), count(3),
+                                         cells(4), count(4), cells(5), count(5));
     case REPORT:
-        return checkraven_report(bytes(0), length[0], bytes(1), length[1], bytes(2), length[2]);
+        return checkraven_report(bytes(0), length[0], bytes(1), length[1], bytes(2), length[2], bytes(3), length[3]);
     case SHEET_FROM_TEXT:
         return checkraven_sheet_from_text(bytes(0), length[0], bytes(1), length[1]);
     case TEXT_FROM_SHEET:
         return checkraven_text_from_sheet(bytes(0), length[0], bytes(1), length[1]);
     case ACCOUNT_TEXT:
-        return checkraven_account_text(bytes(0), length[0], bytes(1), length[1], cells(2), count(2), cells(3), count(3));
+        return checkraven_account_text(bytes(0), length[0], bytes(1), length[1], bytes(2), length[2], cells(3), count(3),
+                                       cells(4), count(4));
     default:
         exit(1);
     }

@@ -29,15 +29,14 @@ fn dust(factors: [u16; 9], grades: [u8; 3], product: u64) -> u64 {
 fn each_byte_as_each_grade() {
     let mut tally = Tally::new("each_byte_as_each_grade");
     let bytes: Vec<u8> = (0..=255).collect();
-    for (place, grade) in every_two(&[0, 1, 2], &bytes) {
-        for others in [[0; 3], GRADES, [3; 3]] {
-            let mut line = Line { grades: others, ..by_hours(1000) };
-            line.grades[place] = grade;
-            let case = case(vec![by_hours(7), line, by_energy(8)]);
-            match grade <= 3 {
-                true => tally.expect_accepted(&case),
-                false => tally.expect_refused(&case, 15, 2),
-            }
+    let grades = every_two(&bytes, &[[0; 3], GRADES, [3; 3]]);
+    for (place, (grade, others)) in thinned(every_two(&[0, 1, 2], &grades)) {
+        let mut line = Line { grades: others, ..by_hours(1000) };
+        line.grades[place] = grade;
+        let case = case(vec![by_hours(7), line, by_energy(8)]);
+        match grade <= 3 {
+            true => tally.expect_accepted(&case),
+            false => tally.expect_refused(&case, 15, 2),
         }
     }
 }
@@ -53,7 +52,7 @@ fn every_grades() -> Vec<[u8; 3]> {
 fn every_combination_of_grades() {
     let mut tally = Tally::new("every_combination_of_grades");
     let products = [0, 1, 3, 999, 198_244_000, 999_999_999, 1_000_000_000];
-    for (grades, product) in every_two(&every_grades(), &products) {
+    for (grades, product) in thinned(every_two(&every_grades(), &products)) {
         let line = Line { grades, ..Line::direct(product).treated(1, 3, [0.0; 3]) };
         let case = case(vec![line]);
         tally.expect_accepted(&case);
@@ -74,7 +73,7 @@ fn each_factor_alone() {
         let mut factors = [0; 9];
         factors[index] = value;
         let table = Fugitive::of(&[Entry::plain(factors)]).bytes();
-        for grades in every_grades() {
+        for grades in thinned(every_grades()) {
             let line = Line { grades, ..Line::direct(1_000_003) };
             let case = Case::of(&book(), &sheet(vec![line])).with_fugitive(table.clone());
             tally.expect_accepted(&case);
@@ -104,7 +103,7 @@ fn dust_goes_by_product() {
 fn the_other_five_bytes_stay_zero() {
     let mut tally = Tally::new("the_other_five_bytes_stay_zero");
     let values: Vec<u8> = (1..=255).collect();
-    for (place, value) in every_two(&[0, 1, 2, 3, 4], &values) {
+    for (place, value) in thinned(every_two(&[0, 1, 2, 3, 4], &values)) {
         for grades in [[0; 3], GRADES] {
             let mut line = Line { grades, ..by_hours(1000) };
             line.last_zeros[place] = value;
@@ -233,8 +232,7 @@ fn every_two_refusals() {
 #[test]
 fn refusals_in_two_lines() {
     let mut tally = Tally::new("refusals_in_two_lines");
-    let no_entry = Line { place: [3240, 1, 1, 3], ..by_hours(5) };
-    let no_entry = Line { technique: 0, ..no_entry };
+    let no_entry = Line { place: [3240, 1, 1, 3], technique: 0, ..by_hours(5) };
     let bad_grade = Line { grades: [0, 4, 0], ..by_hours(5) };
     let no_row = Line { place: [3240, 1, 1, 4], ..by_hours(5) };
     let too_much = Line { product: 1_000_000_001, ..by_hours(5) };

@@ -84,6 +84,7 @@ fn cases() -> Vec<(String, Case)> {
     cases
 }
 
+/// Of G, R, U and D; there is no dust.
 fn every_cell_is_loose(case: &Case) -> bool {
     let cells = cells_for(case.line_count());
     let exact = run_plain(case).exact;
@@ -198,7 +199,7 @@ fn hostile_case(first: u16) -> Case {
     Case::of(&book, &Sheet::new(1, 1, 2, (0..128).map(line).collect()))
 }
 
-/// All four cells of each line, and of the sums, are loose in tonnes.
+/// Four cells of each line, and of the sums, are loose in tonnes.
 fn loose_case() -> Case {
     let book = Book {
         rows: vec![Row { places: 5, ..Row::plain(1, 1, 9_999_991) }.with_techniques(1, 0, 1)],

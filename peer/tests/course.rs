@@ -4,15 +4,17 @@
 //! the text must stand in a table of its section.
 
 use peer::compare::{run_proved, Case, Filled};
-use peer::make::{Book, Line, Row, Sheet, Technique};
+use peer::make::dust::{FACTORS, GAS, PARTICULATES};
+use peer::make::{Book, Entry, Fugitive, Line, Row, Sheet, Technique};
 
 const PAGE: &str = include_str!("../../docs/COURSE.md");
 const MEDIA: [&str; 3] = ["water", "gas", "solids"];
 const WATER: u8 = 1;
+const GRADES: [&str; 3] = ["good", "middle", "poor"];
 const GRAM: f64 = 100_000.0;
 
-/// One line as an officer has it: efficiency and reuse in percent, numbers that
-/// are missing 0.
+/// One line as an officer has it: efficiency and reuse in percent, grades of
+/// crushing, tapping and spill, numbers that are missing 0.
 #[derive(Clone, Copy, Default)]
 struct Works {
     medium: u8,
@@ -24,23 +26,35 @@ struct Works {
     production: f64,
     energy: f64,
     rated: f64,
+    product: f64,
+    grades: [u8; 3],
 }
 
-/// What comes of a line: removed, reused, discharged; how the run was read.
+/// What comes of a line: removed, reused, discharged; dust; how the run was read.
 struct Worked {
     amounts: [f64; 3],
+    fugitive: f64,
     thousandths: f64,
     answer: String,
 }
 
 type Rounding = fn(f64) -> f64;
 
-/// The desk in grams, with a book of one unit per kilogram and one technique, code 1.
+/// The desk in grams for particulates, with a book of one unit per kilogram of
+/// material and one technique, code 1, and with the manual's fugitive factors.
 fn desk(medium: u8, percent: f64, k_rule: u8, lines: Vec<Line>) -> Filled {
-    let rows = vec![Row { places: 5, ..Row::plain(medium, 1, 1) }.with_techniques(k_rule, 0, 1)];
+    let row = Row { basis: 2, places: 5, ..Row::plain(medium, PARTICULATES, 1) };
+    let rows = vec![row.with_techniques(k_rule, 0, 1)];
     let techniques = vec![Technique { code: 1, efficiency: (10.0 * percent).round() as u16 }];
     let book = Book { rows, techniques, gaps: [0; 3] };
-    run_proved(&Case::of(&book, &Sheet::new(medium, 1, 1, lines))).expect("memory is kept")
+    let case = Case::of(&book, &Sheet::new(medium, PARTICULATES, 1, lines));
+    let table = Fugitive::of(&[Entry::plain(FACTORS)]);
+    run_proved(&case.with_fugitive(table.bytes())).expect("memory is kept")
+}
+
+/// So many units, untreated.
+fn direct(generated: f64) -> Line {
+    Line { material: generated as u64, ..Line::direct(0) }
 }
 
 impl Works {
@@ -66,10 +80,18 @@ impl Works {
         shares.map(|percent| self.generated * percent / 100.0)
     }
 
+    /// Factors are thousandths of kg/t, of 100 units a kilogram.
+    fn dust(&self) -> f64 {
+        let graded = self.grades.iter().enumerate().filter(|(_, grade)| **grade > 0);
+        let factor = |(place, grade): (usize, &u8)| FACTORS[3 * place + *grade as usize - 1];
+        graded.map(factor).map(f64::from).sum::<f64>() * 100.0 * self.product
+    }
+
     /// A mistake puts other numbers into the formula, or rounds in another way.
     fn by_mistake(mut self, mistake: &str) -> Option<Worked> {
         let mut rounding: [Rounding; 3] = [f64::floor, f64::floor, f64::ceil];
         let k = self.run / self.production;
+        let mut fugitive = self.dust();
         match mistake {
             "spreadsheet" | "similar technique" | "shares added" => {}
             "calendar year" => self.production = 365.0 * 24.0,
@@ -79,13 +101,15 @@ impl Works {
             "whole hours" => self.run = self.run.floor(),
             "thousandths cut off" => self.run = (1000.0 * self.run).floor() / 1000.0,
             "reuse everywhere" => self.medium = WATER,
+            "through the filter" => (self.generated, fugitive) = (self.generated + fugitive, 0.0),
             "all to the nearest" => rounding = [f64::round; 3],
             "all down" => rounding = [f64::floor; 3],
             _ => return None,
         }
         let added = mistake == "shares added";
         let amounts = if added { self.shares_added() } else { self.formula(rounding) };
-        Some(Worked { amounts, thousandths: (1000.0 * self.run).round(), answer: "figures".into() })
+        let thousandths = (1000.0 * self.run).round();
+        Some(Worked { amounts, fugitive, thousandths, answer: "figures".into() })
     }
 
     /// A line with a rating is by energy; one without any hours has no reading.
@@ -96,7 +120,8 @@ impl Works {
             (run, production) => (1, [run, production, 0.0]),
         };
         let reuse = (10.0 * self.reuse).round() as u16;
-        let line = Line { reuse, ..Line::direct(self.generated as u64) };
+        let Works { product, grades, .. } = *self;
+        let line = Line { reuse, product: product as u64, grades, ..direct(self.generated) };
         let line = line.treated(self.technique, kind, readings);
         desk(self.medium, self.efficiency, if kind == 2 { 2 } else { 1 }, vec![line])
     }
@@ -107,7 +132,8 @@ impl Works {
         let answer = if outcome.is_accepted() { "figures".into() } else { outcome.to_string() };
         let seen = Works { generated: 1e6, efficiency: 100.0, production: 1000.0, ..*self };
         let thousandths = seen.filled_by_desk().exact[1] as f64;
-        Worked { amounts: [1, 2, 3].map(|column| exact[column] as f64), thousandths, answer }
+        let [_, removed, reused, discharged, fugitive] = [0, 1, 2, 3, 4].map(|at| exact[at] as f64);
+        Worked { amounts: [removed, reused, discharged], fugitive, thousandths, answer }
     }
 
     /// Enters a cell; None under a head that is no input.
@@ -116,6 +142,11 @@ impl Works {
             "Worked by" => {}
             "Medium" => self.medium = 1 + MEDIA.iter().position(|name| *name == cell)? as u8,
             "Generated" => self.generated = number(cell)?,
+            "In the duct" => (self.medium, self.generated) = (GAS, number(cell)?),
+            "Product" => self.product = number(cell)?,
+            "Crushing" => self.grades[0] = grade(cell)?,
+            "Tapping" => self.grades[1] = grade(cell)?,
+            "Spill" => self.grades[2] = grade(cell)?,
             "Efficiency" => self.efficiency = number(cell.strip_suffix(" %")?)?,
             "Technique" => self.technique = number(cell)? as u16,
             "Run" | "Run hours" => self.run = number(cell)?,
@@ -136,12 +167,17 @@ fn figure(head: &str, works: &Works, worked: &Worked) -> Option<String> {
         "Removed" => grouped(removed),
         "Reused" => grouped(reused),
         "Discharged" => grouped(discharged),
-        "Together" => grouped(removed + reused + discharged),
+        "Fugitive" => grouped(worked.fugitive),
+        "Together" => grouped(removed + reused + discharged + worked.fugitive),
         "Kept back" => format!("{} %", (removed + reused) * 100.0 / works.generated),
         "Thousandths run" => grouped(worked.thousandths),
         "Answer" => worked.answer.clone(),
         _ => return None,
     })
+}
+
+fn grade(cell: &str) -> Option<u8> {
+    GRADES.iter().position(|name| *name == cell).map(|at| 1 + at as u8)
 }
 
 fn number(cell: &str) -> Option<f64> {
@@ -177,7 +213,7 @@ fn worked_row(heads: &[&str], row: &[&str]) -> Option<Vec<String>> {
 fn shown_row(row: &[&str], rows: &[Vec<&str>]) -> Option<Vec<String>> {
     let lines = rows[0].iter().skip(1).take(row.len() - 3);
     let exact: Vec<f64> = lines.map(|cell| number(cell)).collect::<Option<_>>()?;
-    let lines = exact.iter().map(|units| Line::direct(*units as u64)).collect();
+    let lines = exact.iter().map(|units| direct(*units)).collect();
     let by_desk = desk(WATER, 0.0, 1, lines).shown.into_iter().skip(3).step_by(5);
     let with_total = exact.iter().copied().chain([exact.iter().sum()]);
     let mut shown: Vec<f64> = match row[0] {
@@ -261,6 +297,12 @@ fn a_spoiled_page_is_noticed() {
         ("| Added | Total |", "| Sum | Total |"),
         ("| Kept back |", "| Kept |"),
         ("On 10 units", "On 11 units"),
+        (
+            "| middle | 14,850,000 | 150,000 | 310,600 |",
+            "| middle | 14,850,000 | 150,000 | 310,601 |",
+        ),
+        ("| through the filter |", "| through a filter |"),
+        ("| good | good | good |", "| good | good | middle |"),
         ("## What the desk", "| Worked by | Removed |\n|---|---|\n\n## What the desk"),
     ] {
         assert!(PAGE.contains(right), "{right} isn't on the page");

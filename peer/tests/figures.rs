@@ -275,7 +275,7 @@ fn shares_by_divisors_of_every_length() {
 }
 
 /// One file of another folder with other bytes in it, as `make-files` writes
-/// no such lines, bundles or books.
+/// no such lines, bundles, books or fugitive tables.
 struct Change {
     of: &'static str,
     file: &'static str,
@@ -298,6 +298,9 @@ fn change(folder: &str) -> Option<Change> {
         "bundle-overlapping" => {
             change("bundle-short-run", "bundle.bin", 12 + 8, 107u32.to_le_bytes().to_vec())
         }
+        // The second entry has the scale of the first.
+        "fugitive-bad-table" => change("fugitive", "fugitive.bin", 12 + 28 + 8, vec![0, 0]),
+        "fugitive-in-water" => change("document-000", "sheet.bin", 16 + 56, vec![1]),
         // A book of one row and one technique has 44 bytes.
         "bundle-bad-book" => {
             change("bundle-short-run", "book.bin", 0, 45u32.to_le_bytes().to_vec())

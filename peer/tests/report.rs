@@ -4,7 +4,7 @@
 use checkraven::{report, report_into, Outcome, MOST_CELLS, MOST_TEXT};
 use peer::compare::{limited, run_plain, run_proved, Case};
 use peer::make::generate::{self, Size};
-use peer::make::{any_case, Book, Line, Random, Row, Sheet, Technique};
+use peer::make::{any_case, Book, Entry, Fugitive, Line, Random, Row, Sheet, Technique};
 use peer::print::whole_output;
 use std::fs;
 use std::path::Path;
@@ -99,7 +99,8 @@ fn files_of_all_kinds() {
     }
 }
 
-/// 128 lines of the largest amounts there are, split over all four columns.
+/// 128 lines of the largest amounts that there are in water, split over the four
+/// columns that it has.
 #[test]
 fn the_largest_amounts() {
     let row = Row::plain(1, 1, 1000).with_techniques(1, 0, 1);
@@ -109,6 +110,22 @@ fn the_largest_amounts() {
     for unit in 1..=3 {
         let lines = vec![Line { reuse: 500, ..treated }; 128];
         let case = Case::of(&book, &Sheet::new(1, 1, unit, lines));
+        assert_eq!(run_plain(&case).outcome, Outcome::Accepted);
+        check(&case);
+    }
+}
+
+/// The same in gas, with the most dust that there is.
+#[test]
+fn the_largest_amounts_with_dust() {
+    let row = Row::plain(2, 3, 1000).with_techniques(1, 0, 1);
+    let techniques = vec![Technique { code: 1, efficiency: 333 }];
+    let book = Book { rows: vec![row], techniques, gaps: [0; 3] };
+    let table = Fugitive::of(&[Entry::plain([65_535; 9])]).bytes();
+    let treated = Line::direct(1_000_000_000).treated(1, 1, [8784.0, 8784.0, 0.0]);
+    for unit in 1..=3 {
+        let lines = vec![Line { grades: [1, 2, 3], ..treated }; 128];
+        let case = Case::of(&book, &Sheet::new(2, 3, unit, lines)).with_fugitive(table.clone());
         assert_eq!(run_plain(&case).outcome, Outcome::Accepted);
         check(&case);
     }

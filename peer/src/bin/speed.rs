@@ -1,7 +1,7 @@
 //! The benchmark: the proved desk beside plain Rust in one run, on the same
-//! inputs, by turns. Prints a table in markdown: sheets, a full sheet of fugitive
-//! dust, a full sheet read from text and written as text, a bundle. For a bundle it prints besides what the
-//! same sheets take in calls of their own.
+//! inputs, by turns. Prints a table in markdown: sheets, one of fugitive dust among
+//! them, a full sheet read from text and written as text, a bundle. For a bundle it
+//! prints besides what the same sheets take in calls of their own.
 //!
 //! Usage: `speed [ROUNDS [WORD]]`, by default 200 rounds a case, and only the
 //! cases that have the word in their names.

@@ -8,7 +8,7 @@ use crate::compare::Case;
 /// Does one to three damages to a case.
 pub fn damage(random: &mut Random, case: &mut Case) {
     for _ in 0..1 + random.below(3) {
-        match random.below(12) {
+        match random.below(13) {
             0 => change_byte(random, &mut case.book),
             1 => change_byte(random, &mut case.sheet),
             2 => change_header(random, &mut case.book),
@@ -17,7 +17,7 @@ pub fn damage(random: &mut Random, case: &mut Case) {
             5 => change_length(random, case),
             6 => case.exact_len = random.index(case.exact_len + 4),
             7 => case.shown_len = random.index(case.shown_len + 4),
-            8 => damage_table(random, &mut case.fugitive),
+            8 | 9 => damage_table(random, &mut case.fugitive),
             _ => change_line_field(random, &mut case.sheet),
         }
     }
@@ -34,11 +34,23 @@ pub fn damage_sheet(random: &mut Random, sheet: &mut [u8]) {
 
 /// Does one damage to a fugitive table.
 pub fn damage_table(random: &mut Random, table: &mut Vec<u8>) {
-    match random.below(4) {
+    match random.below(6) {
         0 => change_byte(random, table),
         1 => change_length_of(random, table),
         2 => change_header(random, table),
-        _ => change_entry_field(random, table),
+        3 => change_entry_field(random, table),
+        _ => lose_entry(random, table),
+    }
+}
+
+/// Takes one entry out of a table, which stays right.
+fn lose_entry(random: &mut Random, table: &mut Vec<u8>) {
+    let entries = u16_at(table, 4) as usize;
+    let begin = u32_at(table, 8) as usize + 28 * random.index(entries.max(1));
+    if entries > 0 && begin + 28 <= table.len() {
+        table.drain(begin..begin + 28);
+        write_field(table, 4, 2, entries as u64 - 1);
+        own_length(table);
     }
 }
 
@@ -131,6 +143,10 @@ fn change_line_field(random: &mut Random, sheet: &mut [u8]) {
         return change_header(random, sheet);
     }
     let line = line_offset + 64 * random.index(lines);
+    if random.chance(10) {
+        let at = random.pick(&[56, 57, 58]);
+        return write_field(sheet, line + at, 1, random.below(5));
+    }
     if random.chance(40) {
         let bits = random.pick(&edges::readings());
         let at = random.pick(&[32, 40, 48]);

@@ -50,10 +50,14 @@ pub fn any_bundle(random: &mut Random) -> BundleCase {
     case
 }
 
-/// A case whose sheet is typed as text, some of the texts damaged.
+/// A case whose sheet is typed as text, some of the texts damaged, and now and then
+/// the fugitive table.
 pub fn any_text_case(random: &mut Random) -> TextCase {
     let size = any_size(random);
-    let case = generate::case_up_to(random, size);
+    let mut case = generate::case_up_to(random, size);
+    if random.chance(20) {
+        damage::damage_table(random, &mut case.fugitive);
+    }
     let Case { book, fugitive, sheet, exact_len, shown_len } = case;
     TextCase { book, fugitive, text: any_text(random, &sheet), exact_len, shown_len }
 }

@@ -14,3 +14,4 @@ pub mod LawOutran
 pub mod LawOnce
 pub mod LawWorks
 pub mod LawShutOut
+pub mod LawDust

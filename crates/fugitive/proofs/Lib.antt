@@ -1,1 +1,2 @@
 pub mod LawFugitive
+pub mod LawShutOut

@@ -1,7 +1,7 @@
 -- A field without quotes: the number that stands at a place of the text, where the field ends with it.
 use Prim.Native.Nat.{ℕ}
 use mathlib.Core.Path.{_≡_, refl, sym, _∙_}
-use mathlib.Core.Bool.{Bool, true, false}
+use mathlib.Core.Bool.{true, false}
 use mathlib.Core.List.{List}
 use lib.Dec.{eqb}
 use lib.ListN.{drop}
@@ -17,21 +17,21 @@ use Rattle.records.specs.Follow.{fieldEnds, behind}
 use Rattle.records.proofs.LawField.{field-start}
 use Rattle.records.proofs.LawWhole.{plain-field, plain-content}
 use Rattle.text.specs.Typed.{aReading, fieldNumber}
-use Rattle.text.specs.Inner.{takenIf, fieldAhead, fieldRead}
+use Rattle.text.specs.Inner.{led, fieldAhead, fieldRead}
 use Rattle.text.proofs.LawField.{read-number}
 use Rattle.text.proofs.LawRecord.{decimal-plain}
 
-module _ (text : List ℕ) (at takes : ℕ) (last : Bool) (n end : ℕ) (ends : fieldEnds text end ≡ true) where
+module _ (text : List ℕ) (at takes n end : ℕ) (ends : fieldEnds text end ≡ true) where
   stands-read : (meaning : List ℕ → Typed) → ((field : List ℕ) → fieldNumber takes field ≡ meaning (contentOf field)) → Stands text at meaning n end
-      → takenIf n (behind text end) last ≡ fieldRead text at takes last
+      → led n (behind text end) ≡ fieldRead text at takes
   stands-read meaning same s =
       let plain = decimal-plain (s .bytes) (s .decimal) in
       let field : pieces false (drop at text) .field ≡ s .bytes = plain-field text at (s .bytes) plain (s .there) (rw (s .ends) at ends) in
       let number : fieldNumber takes (pieces false (drop at text) .field) ≡ Is n = rw field (same (s .bytes) ∙ rw (plain-content (s .bytes) plain) (s .is)) in
       let there : end ≡ fieldEnd text at = s .ends ∙ rw (field-start text at, field) refl in
-      read-number text at takes last refl (sym number) refl there
+      read-number text at takes refl (sym number) refl there
 
-  pub read-ahead : fieldAhead text at takes ≡ Number n end → takenIf n (behind text end) last ≡ fieldRead text at takes last
+  pub read-ahead : fieldAhead text at takes ≡ Number n end → led n (behind text end) ≡ fieldRead text at takes
   unfolding fieldAhead fieldNumber
   read-ahead e =
       either-way (eqb takes aReading)

@@ -8,7 +8,7 @@ use native.Mathlib.Omega.{arith}
 use lib.Dec.{lit≤}
 use lib.ListN.{length, length-append}
 use borrow.Author.Tests.{le-leb, leb-true, not-true, eqb-false}
-use Rattle.little.specs.Read.{u16At, u64At, AreBytes}
+use Rattle.little.specs.Read.{byteAt, u16At, u64At, AreBytes}
 use Rattle.little.proofs.LawRead.{u16-below, u64-below}
 use Rattle.search.proofs.LawTest.{either-way, clash, and-left, and-right, every-at}
 use Rattle.headers.specs.House.{mostBytes, fileOk}
@@ -21,16 +21,16 @@ use Rattle.records.specs.Records.{recordsOf}
 use Rattle.records.proofs.LawField.{no-records}
 use Rattle.desk.specs.Key.{keyFrom}
 use Rattle.desk.specs.Sheet.{lineStart, linesOk, sheetOk}
-use Rattle.desk.specs.Line.{lineOf, readingAt}
+use Rattle.desk.specs.Line.{lineOf, readingAt, gradesAt}
 use Rattle.desk.specs.declared.line.Line.{Line}
 use Rattle.desk.proofs.LawTable.{lines-few}
 use Rattle.text.specs.Convert.{Made, Gives, Refuses}
-use Rattle.text.specs.Typed.{aCode, anAmount, headerFields, linesIn, noneZero, typedSheet, lineWidth}
+use Rattle.text.specs.Typed.{aCode, anAmount, aGrade, headerFields, linesIn, noneZero, typedSheet, lineWidth}
 use Rattle.text.specs.Written.{recordText, mostRecord, mostSheetText, kindNumber, usedOf, allTaken, lineTexts, linesFrom, headerTexts}
-use Rattle.text.specs.Written.{readingTexts, inFront, withLine, linesText, textOfSheet}
-use Rattle.text.specs.Inner.{linesNumbers, sheetNumbers, wholeNumbers, headerNumbers}
-use Rattle.text.proofs.LawRecord.{WrittenFields, written-numerals, written-readings, readings-count, record-first, record-short}
-use Rattle.text.proofs.LawWritten.{FieldFits, FieldsFit, done, _and_, field-fits, wholeFields, line-again, header-again, used-typable}
+use Rattle.text.specs.Written.{readingTexts, gradeTexts, inFront, withLine, linesText, textOfSheet}
+use Rattle.text.specs.Inner.{linesNumbers, sheetNumbers, wholeNumbers, gradeNumbers, headerNumbers}
+use Rattle.text.proofs.LawRecord.{WrittenFields, written-numerals, written-readings, written-both, readings-count, record-first, record-short}
+use Rattle.text.proofs.LawWritten.{FieldFits, FieldsFit, done, _and_, field-fits, wholeFields, gradeFields, line-again, header-again, used-typable}
 
 -- ---- what was given
 
@@ -78,11 +78,14 @@ sheet-given s w e =
 
 line-texts : (line : Line) (ts : List ℕ) → WrittenFields (lineTexts line ts)
 unfolding lineTexts
-line-texts line ts = written-numerals (wholeNumbers line) (readingTexts 3 ts) (written-readings 3 ts)
+line-texts line ts =
+    let grades = gradeTexts (line .grades) in
+    written-numerals (wholeNumbers line) (readingTexts 3 ts ++ grades)
+    (written-both (readingTexts 3 ts) grades (written-readings 3 ts) (written-numerals (gradeNumbers (line .grades)) [] tt))
 
-thirteen : (line : Line) (ts : List ℕ) → length (lineTexts line ts) ≡ 13
+all-fields : (line : Line) (ts : List ℕ) → length (lineTexts line ts) ≡ lineWidth
 unfolding lineTexts
-thirteen line ts = rw (readings-count 3 ts)
+all-fields line ts = rw (length-append (readingTexts 3 ts) (gradeTexts (line .grades)), readings-count 3 ts)
 
 header-texts : (s : List ℕ) → WrittenFields (headerTexts s)
 header-texts s = written-numerals (headerNumbers s) [] tt
@@ -94,7 +97,7 @@ lines-size s k i (suc n) w e =
     let g = line-given k (lineOf s i) (linesFrom s (suc i) n) w e in
     let own = record-short (lineTexts (lineOf s i) (g .thousandths)) (line-texts (lineOf s i) (g .thousandths)) in
     let more = lines-size s (k + 1) (suc i) n (g .front .rest) (g .front .gives) in
-    rw (g .front .all, length-append) (omega (arith, rw (thirteen (lineOf s i) (g .thousandths)) at own))
+    rw (g .front .all, length-append) (omega (arith, rw (all-fields (lineOf s i) (g .thousandths)) at own))
 
 pub written-size : (s w : List ℕ) → textOfSheet s ≡ Gives w → length w ≤ mostSheetText
 written-size s w e =
@@ -111,6 +114,9 @@ module _ (s : List ℕ) (bytes : AreBytes s) where
 
   amount-fits : (at : ℕ) → FieldFits anAmount (u64At s at)
   amount-fits at = field-fits anAmount (u64At s at) tt tt (omega (arith, u64-below s bytes at))
+
+  grade-fits : (at : ℕ) → FieldFits aGrade (byteAt s at)
+  grade-fits at = field-fits aGrade (byteAt s at) tt tt (omega (arith, bytes at))
 
 kind-fits : (reading : Reading) → FieldFits 3 (kindNumber reading)
 kind-fits None = field-fits 3 0 tt tt (lit≤ tt)
@@ -134,8 +140,14 @@ line-fits s bytes i =
     and amount-fits s bytes (at + 24)
     and done
 
+grades-fit : (s : List ℕ) → AreBytes s → (i : ℕ) → FieldsFit gradeFields (gradeNumbers (lineOf s i .grades))
+unfolding lineOf gradesAt
+grades-fit s bytes i =
+    let at = lineStart s i in
+    grade-fits s bytes (at + 56) and grade-fits s bytes (at + 57) and grade-fits s bytes (at + 58) and done
+
 line-record : (line : Line) (ts rest : List ℕ) → recordsOf (recordText (lineTexts line ts) ++ rest) ≡ lineTexts line ts ∷ recordsOf rest
-line-record line ts rest = record-first (lineTexts line ts) rest (omega (arith, thirteen line ts)) (line-texts line ts)
+line-record line ts rest = record-first (lineTexts line ts) rest (omega (arith, all-fields line ts)) (line-texts line ts)
 
 pub lines-again : (s : List ℕ) → AreBytes s → (k i n : ℕ) (w : List ℕ) → linesText k (linesFrom s i n) ≡ Gives w
     → linesIn (recordsOf w) ≡ some (linesNumbers (linesFrom s i n))
@@ -145,7 +157,7 @@ lines-again s bytes k i (suc n) w e =
     let line = lineOf s i in
     let g = line-given k line (linesFrom s (suc i) n) w e in
     let ts = g .thousandths in
-    let own = line-again line ts (line-fits s bytes i) (used-typable line ts (g .taken)) in
+    let own = line-again line ts (line-fits s bytes i) (grades-fit s bytes i) (used-typable line ts (g .taken)) in
     let others = lines-again s bytes (k + 1) (suc i) n (g .front .rest) (g .front .gives) in
     rw (g .front .all, line-record line ts (g .front .rest), own, others, g .taken)
 

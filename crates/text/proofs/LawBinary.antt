@@ -24,7 +24,8 @@ use Rattle.shares.specs.declared.share.Reading.{Reading}
 use Rattle.shares.specs.declared.share.Reading.the-variants.{None, Hours, Energy, Throughout}
 use Rattle.desk.specs.Key.{keyFrom}
 use Rattle.desk.specs.Sheet.{lineStart, kindAt, lineOk, sheetOk}
-use Rattle.desk.specs.Line.{readingAt, lineAt, lineOf}
+use Rattle.desk.specs.Line.{readingAt, gradesAt, lineAt, lineOf}
+use Rattle.fugitive.specs.declared.grades.Grades.{Grades}
 use Rattle.desk.specs.declared.line.Line.{Line}
 use Rattle.text.specs.Typed.{TypedSheet}
 use Rattle.text.specs.Binary.{wordsOf, numberAt, techniqueOf, kindOf, usedReadings, readingBits, lineSizes, lineWords, lineBytes}
@@ -83,6 +84,9 @@ pub record LineFits (line : List ℕ) : Type 0 where
   pub kind : kindOf line ≤ 3
   pub product : numberAt line 8 < 2 ^ 64
   pub material : numberAt line 9 < 2 ^ 64
+  pub crushing : numberAt line 13 < byteRange
+  pub tapping : numberAt line 14 < byteRange
+  pub spill : numberAt line 15 < byteRange
 
 abbrev pub floatSaid : (line : List ℕ) (r : ℕ) → Float
 floatSaid line r = ofBits binary64 (readingBits line r)
@@ -92,6 +96,9 @@ readingSaid line =
     cond (eqb (kindOf line) 1) (Hours (floatSaid line 0) (floatSaid line 1))
     (cond (eqb (kindOf line) 2) (Energy (record { kwh = floatSaid line 0; kw = floatSaid line 1; hours = floatSaid line 2 }))
     (cond (eqb (kindOf line) 3) Throughout None))
+
+abbrev pub gradesSaid : (line : List ℕ) → Grades
+gradesSaid line = record { crushing = numberAt line 13; tapping = numberAt line 14; spill = numberAt line 15 }
 
 -- the line that the numbers say
 abbrev pub lineSaid : (header line : List ℕ) → Line
@@ -111,6 +118,7 @@ lineSaid header line =
       product = numberAt line 8;
       material = numberAt line 9;
       reading = readingSaid line;
+      grades = gradesSaid line;
     }
 
 line-size : (line : List ℕ) → length (lineBytes line) ≡ lineSize
@@ -123,22 +131,26 @@ module _ (s line rest : List ℕ) (at : ℕ) (stands : drop at s ≡ lineBytes l
   unfolding lineWords
   same = refl
 
-  one : (j : ℕ) → j < 15 → getD lineSizes j 0 ≡ 1 → getD (lineWords line) j 0 < byteRange → byteAt s (at + offset lineSizes j) ≡ getD (lineWords line) j 0
+  one : (j : ℕ) → j < 19 → getD lineSizes j 0 ≡ 1 → getD (lineWords line) j 0 < byteRange → byteAt s (at + offset lineSizes j) ≡ getD (lineWords line) j 0
   one = one-there lineSizes (lineWords line) rest s at stands same
 
-  two : (j : ℕ) → j < 15 → getD lineSizes j 0 ≡ 2 → getD (lineWords line) j 0 < u16Range → u16At s (at + offset lineSizes j) ≡ getD (lineWords line) j 0
+  two : (j : ℕ) → j < 19 → getD lineSizes j 0 ≡ 2 → getD (lineWords line) j 0 < u16Range → u16At s (at + offset lineSizes j) ≡ getD (lineWords line) j 0
   two = two-there lineSizes (lineWords line) rest s at stands same
 
-  eight : (j : ℕ) → j < 15 → getD lineSizes j 0 ≡ 8 → getD (lineWords line) j 0 < 2 ^ 64 → u64At s (at + offset lineSizes j) ≡ getD (lineWords line) j 0
+  eight : (j : ℕ) → j < 19 → getD lineSizes j 0 ≡ 8 → getD (lineWords line) j 0 < 2 ^ 64 → u64At s (at + offset lineSizes j) ≡ getD (lineWords line) j 0
   eight = eight-there lineSizes (lineWords line) rest s at stands same
 
   zero-byte : byteAt s (at + 15) ≡ 0
   unfolding lineWords
   zero-byte = one 8 (omega arith) refl (omega arith)
 
-  zero-bytes : u64At s (at + 56) ≡ 0
+  last-zero-byte : byteAt s (at + 59) ≡ 0
   unfolding lineWords
-  zero-bytes = eight 14 (omega arith) refl (omega arith)
+  last-zero-byte = one 17 (omega arith) refl (omega arith)
+
+  zero-bytes : u32At s (at + 60) ≡ 0
+  unfolding lineWords
+  zero-bytes = four-there lineSizes (lineWords line) rest s at stands same 18 (omega arith) refl (omega arith)
 
   reading-bits : (r : ℕ) → readingBits line r < 2 ^ 64
   unfolding readingBits
@@ -158,6 +170,14 @@ module _ (s line rest : List ℕ) (at : ℕ) (stands : drop at s ≡ lineBytes l
         let c : u64At s (at + 48) ≡ readingBits line 2 = eight 13 (omega arith) refl (reading-bits 2) in
         rw (kind-there, a, b, c)
 
+    grades-there : gradesAt s at ≡ gradesSaid line
+    unfolding lineWords gradesAt
+    grades-there =
+        let crushing = one 14 (omega arith) refl (fits .crushing) in
+        let tapping = one 15 (omega arith) refl (fits .tapping) in
+        let spill = one 16 (omega arith) refl (fits .spill) in
+        rw (crushing, tapping, spill)
+
     -- its key has the header's medium and pollutant
     line-there : (header : List ℕ) → sheetHeader s .medium ≡ numberAt header 0 → sheetHeader s .pollutant ≡ numberAt header 1
         → lineAt s at ≡ lineSaid header line
@@ -172,7 +192,7 @@ module _ (s line rest : List ℕ) (at : ℕ) (stands : drop at s ≡ lineBytes l
         let reuse = two 6 (omega arith) refl (fits .codes 6 (omega arith)) in
         let produced = eight 9 (omega arith) refl (fits .product) in
         let used = eight 10 (omega arith) refl (fits .material) in
-        rw (medium, pollutant, industry, product, material, process, scale, technique, reuse, produced, used, reading-there)
+        rw (medium, pollutant, industry, product, material, process, scale, technique, reuse, produced, used, reading-there, grades-there)
 
 -- ---- the sheet
 
@@ -292,8 +312,9 @@ module _ (sheet : TypedSheet) where
         let rest = linesBytes (drop (suc i) (sheet .lines)) in
         let kind = kind-there s line rest (sheetSize i) (binary-line i h) (fits .each i h) in
         let byte = zero-byte s line rest (sheetSize i) (binary-line i h) in
+        let last = last-zero-byte s line rest (sheetSize i) (binary-line i h) in
         let bytes = zero-bytes s line rest (sheetSize i) (binary-line i h) in
-        rw (line-place i, kind, byte, bytes, le-leb (kindOf line) 3 (fits .each i h .kind))
+        rw (line-place i, kind, byte, last, bytes, le-leb (kindOf line) 3 (fits .each i h .kind))
 
     pub binary-right : sheetOk (binarySheet sheet) ≡ true
     unfolding sheetOk sheetHeaderOk

@@ -19,7 +19,7 @@ use Rattle.numerals.proofs.LawLaid.{laid-more, laid-none, laid-before, length-l
 use Rattle.records.specs.Records.{pieces, recordIn, recordsOf, isQuoted, contentOf}
 use Rattle.records.specs.Inner.{following}
 use Rattle.records.proofs.LawField.{some-records, no-records}
-use Rattle.text.specs.Typed.{headerFields, lineFields, fieldNumber, numbersIn, before, linesIn, fewLines, noneZero, sheetTyped, sheetIn, typedSheet}
+use Rattle.text.specs.Typed.{headerFields, fieldNumber, numbersIn, headerIn, lineIn, before, linesIn, fewLines, noneZero, sheetTyped, sheetIn, typedSheet}
 use Rattle.text.specs.Binary.{lineBytes, linesBytes, sheetSize, headerSizes, headerWords, wordsOf, binarySheet}
 use Rattle.text.specs.Inner.{allBefore, LinesLaid, SheetLaid}
 use Rattle.text.proofs.LawBinary.{lines-size, header-size}
@@ -99,17 +99,17 @@ module _ (text : List ℕ) (at : ℕ) (sheet : List ℕ) where
       abbrev others : List (List (List ℕ))
       others = following (pieces false (drop next text) .records)
 
-      opened : left next ≡ before (numbersIn lineFields here) (linesIn others)
+      opened : left next ≡ before (lineIn here) (linesIn others)
       unfolding linesIn
       opened = rw (some-records (drop next text) (omega (arith, more, length-drop next text))) refl
 
       pub lines-many : lines ≡ mostLines → fewLines (left at) ≡ none
-      lines-many e = rw (so-far .whole, opened) (too-many (so-far .done) (linesIn others) (numbersIn lineFields here) (so-far .count ∙ e))
+      lines-many e = rw (so-far .whole, opened) (too-many (so-far .done) (linesIn others) (lineIn here) (so-far .count ∙ e))
 
-      pub lines-broken : numbersIn lineFields here ≡ none → fewLines (left at) ≡ none
+      pub lines-broken : lineIn here ≡ none → fewLines (left at) ≡ none
       lines-broken e = rw (so-far .whole, opened, e, before-none (so-far .done)) refl
 
-      pub lines-step : (lines ≡ mostLines → ⊥) → (numbers : List ℕ) (after : ℕ) (sheet'' : List ℕ) → numbersIn lineFields here ≡ some numbers
+      pub lines-step : (lines ≡ mostLines → ⊥) → (numbers : List ℕ) (after : ℕ) (sheet'' : List ℕ) → lineIn here ≡ some numbers
           → others ≡ recordsOf (drop after text) → sheet'' ≡ laid (sheetSize lines) (lineBytes numbers) sheet' → LinesSoFar sheet'' after (lines + 1)
       lines-step other numbers after sheet'' is next-record put =
           let place : sheetSize lines ≡ sheetHeaderSize + length (linesBytes (so-far .done)) = omega (arith, lines-size (so-far .done), so-far .count) in
@@ -159,11 +159,11 @@ module _ (text : List ℕ) where
   rest = following (pieces false text .records)
 
   -- a text of no bytes has no header
-  no-text : numbersIn headerFields (recordIn (pieces false [])) ≡ none
+  no-text : headerIn (recordIn (pieces false [])) ≡ none
   unfolding pieces numbersIn fieldNumber contentOf isQuoted every numberIn isNumeral
   no-text = refl
 
-  pub no-header : numbersIn headerFields first ≡ none → typedSheet text ≡ none
+  pub no-header : headerIn first ≡ none → typedSheet text ≡ none
   unfolding typedSheet
   no-header e = either-way (leb (length text) mostBytes) (λ l. rw l (go text refl)) (λ l. rw l refl)
     where
@@ -171,7 +171,7 @@ module _ (text : List ℕ) where
       go [] same = rw (same, no-records) refl
       go (b ∷ t) same = rw (some-records text (omega (arith, ap length same)), e) refl
 
-  module _ (short : length text ≤ mostBytes) (header : List ℕ) (said : numbersIn headerFields first ≡ some header) where
+  module _ (short : length text ≤ mostBytes) (header : List ℕ) (said : headerIn first ≡ some header) where
     some-text : 0 < length text
     some-text = go text refl
       where
@@ -188,7 +188,7 @@ module _ (text : List ℕ) where
     has-zero = (eqb (getD header 0 0) 0 || eqb (getD header 1 0) 0) || eqb (getD header 2 0) 0
 
     none-zero : noneZero header ≡ not has-zero
-    none-zero = none-is-zero header (numbers-size headerFields first header said)
+    none-zero = none-is-zero header (numbers-size 3 headerFields first header said)
 
     pub zero-header : has-zero ≡ true → typedSheet text ≡ none
     zero-header z = typed-by ∙ go (fewLines (linesIn rest))

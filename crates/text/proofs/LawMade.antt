@@ -1,12 +1,12 @@
 -- Every sheet that is read from a text is right: what a field takes has room in the binary sheet, and a right sheet allows it.
-use Prim.Native.Nat.{ℕ, zero, suc, _≤_, _<_}
+use Prim.Native.Nat.{ℕ, zero, suc, _-_, _≤_, _<_}
 use mathlib.Core.Path.{_≡_, refl, _∙_}
 use mathlib.Core.Bool.{true}
 use mathlib.Core.List.{List, [], _∷_}
 use mathlib.Core.Option.{Option, none, some}
 use native.Mathlib.Omega.{arith}
 use lib.Dec.{leb}
-use lib.ListN.{length, getD, replicate, getD-replicate, List·getD-append}
+use lib.ListN.{length, drop, getD, replicate, getD-replicate, List·getD-append}
 use borrow.Author.Tests.{leb-true, ne-eqb}
 use Rattle.search.proofs.LawTest.{either-way, clash, and-left, and-right}
 use Rattle.headers.specs.House.{mostBytes}
@@ -17,7 +17,8 @@ use Rattle.numerals.specs.declared.typed.Typed.the-variants.{Is, Malformed}
 use Rattle.numerals.proofs.LawTyped.{number-most}
 use Rattle.records.specs.Records.{contentOf, recordsOf}
 use Rattle.desk.specs.Sheet.{sheetOk}
-use Rattle.text.specs.Typed.{aReading, aCode, anAmount, headerFields, lineFields, fieldNumber, followed, numbersIn, before, linesIn}
+use Rattle.text.specs.Typed.{aReading, aCode, headerFields, lineFields, neededFields, fieldNumber, followed, leftOff, numbersIn, headerIn, lineIn}
+use Rattle.text.specs.Typed.{before, linesIn}
 use Rattle.text.specs.Typed.{TypedSheet, noneZero, fewLines, sheetTyped, sheetIn, typedSheet}
 use Rattle.text.specs.Binary.{binarySheet, sheetSize}
 use Rattle.text.specs.Convert.{Gives}
@@ -32,43 +33,61 @@ followed-both Malformed others numbers h go = clash (cc)
 followed-both (Is n) none numbers h go = clash (cc)
 followed-both (Is n) (some rest) numbers h go = go n rest refl refl (cc)
 
-pub numbers-size : (takes : List ℕ) (fields : List (List ℕ)) (numbers : List ℕ) → numbersIn takes fields ≡ some numbers
+left-off-both : {P : Type 0} (needed : ℕ) (others : Option (List ℕ)) (numbers : List ℕ) → leftOff needed others ≡ some numbers
+    → ((rest : List ℕ) → others ≡ some rest → 0 ∷ rest ≡ numbers → P) → P
+left-off-both zero none numbers h go = clash (cc)
+left-off-both zero (some rest) numbers h go = go rest refl (cc)
+left-off-both (suc needed) others numbers h go = clash (cc)
+
+pub numbers-size : (needed : ℕ) (takes : List ℕ) (fields : List (List ℕ)) (numbers : List ℕ) → numbersIn needed takes fields ≡ some numbers
     → length numbers ≡ length takes
 unfolding numbersIn
-numbers-size [] [] numbers h = let same : [] ≡ numbers = cc in rw (← same)
-numbers-size [] (field ∷ fields) numbers h = clash (cc)
-numbers-size (t ∷ takes) [] numbers h = clash (cc)
-numbers-size (t ∷ takes) (field ∷ fields) numbers h =
-    followed-both (fieldNumber t field) (numbersIn takes fields) numbers h (λ n rest is others same. rw (← same, numbers-size takes fields rest others))
+numbers-size needed [] [] numbers h = let same : [] ≡ numbers = cc in rw (← same)
+numbers-size needed [] (field ∷ fields) numbers h = clash (cc)
+numbers-size needed (t ∷ takes) [] numbers h =
+    left-off-both needed (numbersIn (needed - 1) takes []) numbers h (λ rest others same. rw (← same, numbers-size (needed - 1) takes [] rest others))
+numbers-size needed (t ∷ takes) (field ∷ fields) numbers h =
+    followed-both (fieldNumber t field) (numbersIn (needed - 1) takes fields) numbers h
+    (λ n rest is others same. rw (← same, numbers-size (needed - 1) takes fields rest others))
 
 field-most : (takes n : ℕ) (field : List ℕ) → fieldNumber takes field ≡ Is n → (takes ≡ aReading → ⊥) → n ≤ takes
 unfolding fieldNumber
 field-most takes n field h whole = number-most mostDigits takes (contentOf field) n (rw (ne-eqb takes aReading whole) at h)
 
 -- a whole number is at most what its field takes
-pub numbers-most : (takes : List ℕ) (fields : List (List ℕ)) (numbers : List ℕ) → numbersIn takes fields ≡ some numbers
+pub numbers-most : (needed : ℕ) (takes : List ℕ) (fields : List (List ℕ)) (numbers : List ℕ) → numbersIn needed takes fields ≡ some numbers
     → (j : ℕ) → (getD takes j 0 ≡ aReading → ⊥) → getD numbers j 0 ≤ getD takes j 0
 unfolding numbersIn
-numbers-most [] fields numbers h j whole = absurd (whole refl)
-numbers-most (t ∷ takes) [] numbers h j whole = clash (cc)
-numbers-most (t ∷ takes) (field ∷ fields) numbers h zero whole =
-    followed-both (fieldNumber t field) (numbersIn takes fields) numbers h (λ n rest is others same. rw (← same) (field-most t n field is whole))
-numbers-most (t ∷ takes) (field ∷ fields) numbers h (suc j) whole =
-    followed-both (fieldNumber t field) (numbersIn takes fields) numbers h (λ n rest is others same. rw (← same) (numbers-most takes fields rest others j whole))
+numbers-most needed [] fields numbers h j whole = absurd (whole refl)
+numbers-most needed (t ∷ takes) [] numbers h zero whole =
+    left-off-both needed (numbersIn (needed - 1) takes []) numbers h (λ rest others same. rw (← same) (omega arith))
+numbers-most needed (t ∷ takes) [] numbers h (suc j) whole =
+    left-off-both needed (numbersIn (needed - 1) takes []) numbers h
+    (λ rest others same. rw (← same) (numbers-most (needed - 1) takes [] rest others j whole))
+numbers-most needed (t ∷ takes) (field ∷ fields) numbers h zero whole =
+    followed-both (fieldNumber t field) (numbersIn (needed - 1) takes fields) numbers h
+    (λ n rest is others same. rw (← same) (field-most t n field is whole))
+numbers-most needed (t ∷ takes) (field ∷ fields) numbers h (suc j) whole =
+    followed-both (fieldNumber t field) (numbersIn (needed - 1) takes fields) numbers h
+    (λ n rest is others same. rw (← same) (numbers-most (needed - 1) takes fields rest others j whole))
 
 -- ---- a line
 
 code-taken : (j : ℕ) → j < 7 → getD lineFields j 0 ≡ aCode
 code-taken j h =
-    List·getD-append (replicate 7 aCode) (3 ∷ anAmount ∷ anAmount ∷ aReading ∷ aReading ∷ aReading ∷ []) 0 j h ∙ getD-replicate 7 j aCode 0 h
+    List·getD-append (replicate 7 aCode) (drop 7 lineFields) 0 j h ∙ getD-replicate 7 j aCode 0 h
 
-line-fits : (fields : List (List ℕ)) (line : List ℕ) → numbersIn lineFields fields ≡ some line → LineFits line
+line-fits : (fields : List (List ℕ)) (line : List ℕ) → lineIn fields ≡ some line → LineFits line
 line-fits fields line h =
+    let most = numbers-most neededFields lineFields fields line h in
     record {
-      codes = λ j l. let takes = code-taken j l in omega (arith, numbers-most lineFields fields line h j (λ z. omega arith));
-      kind = numbers-most lineFields fields line h 7 (λ z. omega arith);
-      product = omega (arith, numbers-most lineFields fields line h 8 (λ z. omega arith));
-      material = omega (arith, numbers-most lineFields fields line h 9 (λ z. omega arith));
+      codes = λ j l. let takes = code-taken j l in omega (arith, most j (λ z. omega arith));
+      kind = most 7 (λ z. omega arith);
+      product = omega (arith, most 8 (λ z. omega arith));
+      material = omega (arith, most 9 (λ z. omega arith));
+      crushing = omega (arith, most 13 (λ z. omega arith));
+      tapping = omega (arith, most 14 (λ z. omega arith));
+      spill = omega (arith, most 15 (λ z. omega arith));
     }
 
 before-both : {P : Type 0} (line : Option (List ℕ)) (others : Option (List (List ℕ))) (all : List (List ℕ)) → before line others ≡ some all
@@ -82,9 +101,9 @@ lines-fit : (records : List (List (List ℕ))) (lines : List (List ℕ)) → lin
 unfolding linesIn
 lines-fit [] lines h i l = let same : [] ≡ lines = cc in let none : length lines ≡ 0 = rw (← same) in absurd (omega arith)
 lines-fit (fields ∷ records) lines h zero l =
-    before-both (numbersIn lineFields fields) (linesIn records) lines h (λ line rest is others same. rw (← same) (line-fits fields line is))
+    before-both (lineIn fields) (linesIn records) lines h (λ line rest is others same. rw (← same) (line-fits fields line is))
 lines-fit (fields ∷ records) lines h (suc i) l =
-    before-both (numbersIn lineFields fields) (linesIn records) lines h
+    before-both (lineIn fields) (linesIn records) lines h
     (λ line rest is others same.
     let size : length lines ≡ suc (length rest) = rw (← same) in
     rw (← same) (lines-fit records rest others i (omega arith)))
@@ -107,27 +126,27 @@ none-zero (n ∷ numbers) h zero l = leb-true 1 n (and-left (leb 1 n) (noneZero 
 none-zero (n ∷ numbers) h (suc j) l = none-zero numbers (and-right (leb 1 n) (noneZero numbers) h) j (omega arith)
 
 module _ (fields : List (List ℕ)) (records : List (List (List ℕ))) (header : List ℕ) (lines : List (List ℕ))
-    (first : numbersIn headerFields fields ≡ some header) (others : fewLines (linesIn records) ≡ some lines) (some-each : noneZero header ≡ true) where
+    (first : headerIn fields ≡ some header) (others : fewLines (linesIn records) ≡ some lines) (some-each : noneZero header ≡ true) where
   records-fit : NumbersFit (record { header = header; lines = lines })
   records-fit =
-      let size : length header ≡ 3 = numbers-size headerFields fields header first in
+      let size : length header ≡ 3 = numbers-size 3 headerFields fields header first in
       let all = few-lines (linesIn records) lines others in
       record {
         mediumSome = none-zero header some-each 0 (omega arith);
-        medium = numbers-most headerFields fields header first 0 (λ z. omega arith);
+        medium = numbers-most 3 headerFields fields header first 0 (λ z. omega arith);
         pollutantSome = none-zero header some-each 1 (omega arith);
-        pollutant = omega (arith, numbers-most headerFields fields header first 1 (λ z. omega arith));
+        pollutant = omega (arith, numbers-most 3 headerFields fields header first 1 (λ z. omega arith));
         unitSome = none-zero header some-each 2 (omega arith);
-        unit = numbers-most headerFields fields header first 2 (λ z. omega arith);
+        unit = numbers-most 3 headerFields fields header first 2 (λ z. omega arith);
         few = all .1;
         each = lines-fit records lines (all .0);
       }
 
 records-typed : (records : List (List (List ℕ))) (sheet : TypedSheet) → sheetIn records ≡ some sheet → NumbersFit sheet
 records-typed [] sheet h = clash (cc)
-records-typed (fields ∷ records) sheet h = go (numbersIn headerFields fields) refl (fewLines (linesIn records)) refl h
+records-typed (fields ∷ records) sheet h = go (headerIn fields) refl (fewLines (linesIn records)) refl h
   where
-    go : (header : Option (List ℕ)) → numbersIn headerFields fields ≡ header → (lines : Option (List (List ℕ))) → fewLines (linesIn records) ≡ lines
+    go : (header : Option (List ℕ)) → headerIn fields ≡ header → (lines : Option (List (List ℕ))) → fewLines (linesIn records) ≡ lines
         → sheetTyped header lines ≡ some sheet → NumbersFit sheet
     go none e lines d h = clash (cc)
     go (some header) e none d h = clash (cc)

@@ -98,6 +98,10 @@ written-readings zero ts = tt
 written-readings (suc n) [] = (written-numeral 0, written-readings n [])
 written-readings (suc n) (t ∷ ts) = (written-decimal t, written-readings n ts)
 
+pub written-both : (fields others : List (List ℕ)) → WrittenFields fields → WrittenFields others → WrittenFields (fields ++ others)
+written-both [] others w v = v
+written-both (field ∷ fields) others w v = (w .0, written-both fields others (w .1) v)
+
 pub readings-count : (n : ℕ) (ts : List ℕ) → length (readingTexts n ts) ≡ n
 unfolding readingTexts
 readings-count zero ts = refl

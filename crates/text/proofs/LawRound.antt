@@ -26,7 +26,7 @@ use Rattle.shares.proofs.LawShare.{hours-alike, energy-alike}
 use Rattle.desk.specs.Key.{keyFrom}
 use Rattle.desk.specs.Sheet.{sheetOk}
 use Rattle.desk.specs.Line.{lineOf}
-use Rattle.desk.specs.Lent.{lent}
+use Rattle.desk.specs.Lent.{Sources, lent}
 use Rattle.desk.specs.Account.{accountOf, lineOutcome}
 use Rattle.desk.specs.Declare.{Declared}
 use Rattle.desk.specs.declared.line.Line.{Line}
@@ -81,16 +81,16 @@ module _ (line : Line) (treated : line .technique ≡ 0 → ⊥) where
 
 -- ---- a line
 
-line-again : (b : List ℕ) (line : Line) (ts : List ℕ) → allTaken (usedOf line) ≡ some ts
-    → accountOf b (withReading line (readingSaid (lineNumbers line ts))) ≡ accountOf b line
-line-again b line ts h =
-    account-alike b line (readingSaid (lineNumbers line ts)) (line .reading)
+line-again : (from : Sources) (line : Line) (ts : List ℕ) → allTaken (usedOf line) ≡ some ts
+    → accountOf from (withReading line (readingSaid (lineNumbers line ts))) ≡ accountOf from line
+line-again from line ts h =
+    account-alike from line (readingSaid (lineNumbers line ts)) (line .reading)
     (λ row hit treated. reading-again line treated (line .reading) ts (rw (ne-eqb (line .technique) 0 treated) at h) (row .rule))
 
 -- all else is read again as it was
 line-said : (s : List ℕ) (i : ℕ) (ts : List ℕ)
     → lineSaid (sheetNumbers s .header) (lineNumbers (lineOf s i) ts) ≡ withReading (lineOf s i) (readingSaid (lineNumbers (lineOf s i) ts))
-unfolding sheetNumbers lineNumbers lineOf keyFrom
+unfolding sheetNumbers lineNumbers padded lineOf keyFrom
 line-said s i ts = refl
 
 -- the numbers of line i + j, of n lines from line i on
@@ -117,18 +117,18 @@ module _ (s : List ℕ) (fits : NumbersFit (sheetNumbers s)) where
   unfolding sheetNumbers
   unit-again = sym (ap (λ (h : SheetHeader). unitOf (h .shownUnit)) header-again)
 
-  outcome-again : (b : List ℕ) (i : ℕ) → i < lineCount s → (ts : List ℕ) → allTaken (usedOf (lineOf s i)) ≡ some ts
-      → lineOutcome (lent b s) i ≡ lineOutcome (lent b (binarySheet (sheetNumbers s))) i
+  outcome-again : (from : Sources) (i : ℕ) → i < lineCount s → (ts : List ℕ) → allTaken (usedOf (lineOf s i)) ≡ some ts
+      → lineOutcome (lent from s) i ≡ lineOutcome (lent from (binarySheet (sheetNumbers s))) i
   unfolding lineOutcome sheetNumbers
-  outcome-again b i h ts taken =
+  outcome-again from i h ts taken =
       let there : i < length (sheetNumbers s .lines) = rw (lines-count s 0 (lineCount s)) h in
       let numbers : getD (sheetNumbers s .lines) i [] ≡ lineNumbers (lineOf s i) ts = rw (zero-add, taken) at (line-numbers s 0 (lineCount s) i h) in
       let said = binary-line-said (sheetNumbers s) fits i there in
-      sym (rw (said, numbers, line-said s i ts) (line-again b (lineOf s i) ts taken))
+      sym (rw (said, numbers, line-said s i ts) (line-again from (lineOf s i) ts taken))
 
   module _ (right : sheetOk s ≡ true) (taken : (i : ℕ) → i < lineCount s → (ts : List ℕ) × (allTaken (usedOf (lineOf s i)) ≡ some ts)) where
-    each-again : (b : List ℕ) (i : ℕ) → i < lineCount s → lineOutcome (lent b s) i ≡ lineOutcome (lent b (binarySheet (sheetNumbers s))) i
-    each-again b i h = let used = taken i h in outcome-again b i h (used .0) (used .1)
+    each-again : (from : Sources) (i : ℕ) → i < lineCount s → lineOutcome (lent from s) i ≡ lineOutcome (lent from (binarySheet (sheetNumbers s))) i
+    each-again from i h = let used = taken i h in outcome-again from i h (used .0) (used .1)
 
     sheet-again : AccountsAlike s (binarySheet (sheetNumbers s))
     sheet-again =
@@ -177,7 +177,7 @@ module _ (s text : List ℕ) (bytes : AreBytes s) (written : textOfSheet s ≡ G
       }
 
   -- so the desk answers and leaves for the text what it does for the sheet
-  pub declared-again : (book exact shown : List ℕ) (r : Outcome) (exact' shown' : List ℕ) → Declared (lent book s) exact shown r exact' shown'
-      → DeclaredText book text exact shown r exact' shown'
-  declared-again book exact shown r exact' shown' promised =
-      rw (read-again .gives) (read-again .alike .declared book exact shown r exact' shown' promised)
+  pub declared-again : (from : Sources) (exact shown : List ℕ) (r : Outcome) (exact' shown' : List ℕ) → Declared (lent from s) exact shown r exact' shown'
+      → DeclaredText from text exact shown r exact' shown'
+  declared-again from exact shown r exact' shown' promised =
+      rw (read-again .gives) (read-again .alike .declared from exact shown r exact' shown' promised)

@@ -1,9 +1,10 @@
 -- Readers, writers and desks near the rules: each differs from them at a small text that is computed here, or is refuted in general.
-use Prim.Native.Nat.{ℕ, zero, suc, _+_, _≤_, _<_, min}
+use Prim.Native.Nat.{ℕ, zero, suc, _+_, _-_, _≤_, _<_, min}
 use mathlib.Core.Path.{_≡_, refl, sym, ap, _∙_}
 use mathlib.Core.Bool.{true, false, cond}
 use mathlib.Core.List.{List, [], _∷_, _++_, append-assoc, append-nil}
 use mathlib.Core.Option.{Option, none, some}
+use mathlib.Core.Logic.{_⊎_, inl, inr, ⊎-elim}
 use native.Mathlib.Omega.{arith}
 use lib.Dec.{leb, eqb}
 use lib.ListN.{length, getD, replicate}
@@ -20,29 +21,31 @@ use Rattle.numerals.specs.declared.typed.Typed.{Typed}
 use Rattle.numerals.specs.declared.typed.Typed.the-variants.{Is, Malformed}
 use Rattle.records.specs.Records.{comma, quote, carriageReturn, lineFeed, pieces, ended, recordsOf, isQuoted, contentOf}
 use Rattle.answers.specs.declared.answer.FileFault.{FileFault}
-use Rattle.answers.specs.declared.answer.FileFault.the-variants.{BookMalformed, SheetMalformed, TextMalformed, ResultTooShort}
+use Rattle.answers.specs.declared.answer.FileFault.the-variants.{BookMalformed, FugitiveMalformed, SheetMalformed, TextMalformed, ResultTooShort}
 use Rattle.answers.specs.declared.answer.LineFault.the-variants.{BadReading}
 use Rattle.answers.specs.declared.answer.Outcome.{Outcome}
 use Rattle.answers.specs.declared.answer.Outcome.the-variants.{Accepted, RefusedFile, RefusedLine}
 use Rattle.shares.specs.declared.share.Reading.the-variants.{None, Throughout}
 use Rattle.desk.specs.Book.{bookOk}
+use Rattle.desk.specs.Entries.{fugitiveOk}
 use Rattle.desk.specs.Sheet.{sheetOk}
 use Rattle.desk.specs.Line.{lineOf}
-use Rattle.desk.specs.Lent.{lent}
+use Rattle.desk.specs.Lent.{Sources, lent}
 use Rattle.desk.specs.Cells.{tableSize}
 use Rattle.desk.specs.Account.{lineOutcome}
-use Rattle.desk.specs.Table.{byFiles, orLine, byLines, answerOf}
+use Rattle.desk.specs.Table.{bySources, bySheet, orNext, byFiles, orLine, byLines, answerOf}
 use Rattle.desk.specs.declared.line.Line.{Line}
 use Rattle.desk.specs.declared.account.LineOutcome.{LineOutcome}
 use Rattle.desk.specs.declared.account.LineOutcome.the-variants.{Given, Refusal}
 use Rattle.text.specs.declared.convert.Converted.{Converted}
 use Rattle.text.specs.declared.convert.Converted.the-variants.{Refused}
-use Rattle.text.specs.Typed.{headerFields, lineFields, readingFields, fieldNumber, followed, numbersIn, before, linesIn, TypedSheet, sheetTyped, sheetIn, typedSheet}
+use Rattle.text.specs.Typed.{aGrade, headerFields, lineFields, lineWidth, neededFields, readingFields, fieldNumber, followed, numbersIn, headerIn, lineIn, before, linesIn, TypedSheet, sheetTyped, sheetIn, typedSheet}
 use Rattle.text.specs.Binary.{techniqueOf, kindOf, usedReadings, readingBits, lineWords, wordsOf, linesBytes, headerWords, binarySheet}
 use Rattle.text.specs.Convert.{Made, Gives, Refuses, byRoom, Converts}
 use Rattle.text.specs.Read.{sheetOfText}
 use Rattle.text.specs.Written.{recordEnd, recordText, readingsOf, usedOf, allTaken, readingTexts, lineTexts, linesFrom, headerTexts, linesText, textOfSheet}
-use Rattle.text.specs.Declare.{bookFirst, DeclaredBy, DeclaredText}
+use Rattle.text.specs.Declare.{DeclaredBy, DeclaredText}
+use Rattle.text.proofs.LawWritten.{field-fits, numeral-again}
 use Rattle.text.proofs.LawLines.{too-long}
 use Rattle.text.proofs.LawMade.{made-right}
 use Rattle.text.proofs.LawBack.{line-given, sheet-given}
@@ -146,7 +149,7 @@ withLineOf technique kind a b c =
 
 -- one that keeps hours of technique 0: they are read, and the sheet is that of zeros
 pub untreated-hours-kept : (typedSheet (withLineOf nought one one two two)
-    ≡ some (record { header = 1 ∷ 1 ∷ 1 ∷ []; lines = (replicate 7 0 ++ (1 ∷ 0 ∷ 0 ∷ 1000 ∷ 2000 ∷ 2000 ∷ [])) ∷ [] }))
+    ≡ some (record { header = 1 ∷ 1 ∷ 1 ∷ []; lines = (replicate 7 0 ++ (1 ∷ 0 ∷ 0 ∷ 1000 ∷ 2000 ∷ 2000 ∷ 0 ∷ 0 ∷ 0 ∷ [])) ∷ [] }))
     × (sheetOfText (withLineOf nought one one two two) ≡ sheetOfText (withLineOf nought one nought nought nought))
 unfolding sheetOfText typedSheet recordText recordsOf pieces ended numbersIn linesIn fieldNumber contentOf isQuoted every numberIn isNumeral
     allDigits valueOf decimalIn pointIn first placesIn binarySheet wordsOf headerWords linesBytes lineWords readingBits usedReadings word
@@ -177,25 +180,67 @@ followed-none : (first : Typed) → followed first none ≡ none
 followed-none (Is n) = refl
 followed-none Malformed = refl
 
+-- a field that is needed is not there, or there is one too many
+abbrev pub Miscounted : (needed most fields : ℕ) → Type 0
+Miscounted needed most fields = (fields < needed) ⊎ (most < fields)
+
+less-by-one : (needed most fields : ℕ) → Miscounted needed (suc most) (suc fields) → Miscounted (needed - 1) most fields
+less-by-one needed most fields (inl few) = inl (omega arith)
+less-by-one needed most fields (inr many) = inr (omega arith)
+
 -- one that takes a record with a field too many or too few
-pub fields-counted : (takes : List ℕ) (fields : List (List ℕ)) → (length fields ≡ length takes → ⊥) → numbersIn takes fields ≡ none
+pub fields-counted : (needed : ℕ) (takes : List ℕ) (fields : List (List ℕ)) → needed ≤ length takes
+    → Miscounted needed (length takes) (length fields) → numbersIn needed takes fields ≡ none
 unfolding numbersIn
-fields-counted [] [] other = absurd (other refl)
-fields-counted [] (field ∷ fields) other = refl
-fields-counted (t ∷ takes) [] other = refl
-fields-counted (t ∷ takes) (field ∷ fields) other =
-    rw (fields-counted takes fields (λ same. other (ap suc same))) (followed-none (fieldNumber t field))
+fields-counted needed [] [] asked (inl few) = absurd (omega arith)
+fields-counted needed [] [] asked (inr many) = absurd (omega arith)
+fields-counted needed [] (field ∷ fields) asked other = refl
+fields-counted zero (t ∷ takes) [] asked (inl few) = absurd (omega arith)
+fields-counted zero (t ∷ takes) [] asked (inr many) = absurd (omega arith)
+fields-counted (suc needed) (t ∷ takes) [] asked other = refl
+fields-counted needed (t ∷ takes) (field ∷ fields) asked other =
+    rw (fields-counted (needed - 1) takes fields (omega arith) (less-by-one needed (length takes) (length fields) other)) (followed-none (fieldNumber t field))
+
+-- one that reads what is left off as another number than 0: a record is read as with the numeral 0 behind it
+pub left-off-zero : (needed : ℕ) (takes : List ℕ) (fields : List (List ℕ)) → needed ≤ length fields → length fields < length takes
+    → fieldNumber (getD takes (length fields) 0) (numeral 0) ≡ Is 0
+    → numbersIn needed takes fields ≡ numbersIn needed takes (fields ++ (numeral 0 ∷ []))
+unfolding numbersIn
+left-off-zero needed [] fields there more zero-is = absurd (omega arith)
+left-off-zero zero (t ∷ takes) [] there more zero-is = rw zero-is refl
+left-off-zero (suc needed) (t ∷ takes) [] there more zero-is = absurd (omega arith)
+left-off-zero needed (t ∷ takes) (field ∷ fields) there more zero-is =
+    rw (left-off-zero (needed - 1) takes fields (omega arith) (omega arith) zero-is) refl
+
+-- so a line of thirteen fields, fourteen or fifteen is read as one with all its grades
+pub grade-left-off : (fields : List (List ℕ)) → neededFields ≤ length fields → length fields < lineWidth → lineIn fields ≡ lineIn (fields ++ (numeral 0 ∷ []))
+grade-left-off fields there more = left-off-zero neededFields lineFields fields there more (rw (graded (length fields) there more) zero-grade)
+  where
+    zero-grade : fieldNumber aGrade (numeral 0) ≡ Is 0
+    zero-grade = numeral-again aGrade 0 (field-fits aGrade 0 tt tt (omega arith))
+
+    behind-needed : (k : ℕ) → k < 3 → getD lineFields (neededFields + k) 0 ≡ aGrade
+    behind-needed zero h = refl
+    behind-needed (suc zero) h = refl
+    behind-needed (suc (suc zero)) h = refl
+    behind-needed (suc (suc (suc k))) h = absurd (omega arith)
+
+    graded : (n : ℕ) → neededFields ≤ n → n < lineWidth → getD lineFields n 0 ≡ aGrade
+    graded n l h =
+        let back : neededFields + (n - neededFields) ≡ n = omega arith in
+        ap (λ (k : ℕ). getD lineFields k 0) (sym back) ∙ behind-needed (n - neededFields) (omega arith)
 
 before-none : (line : Option (List ℕ)) → before line none ≡ none
 before-none none = refl
 before-none (some line) = refl
 
-lines-counted : (records : List (List (List ℕ))) (i : ℕ) → i < length records → (length (getD records i []) ≡ length lineFields → ⊥) → linesIn records ≡ none
+lines-counted : (records : List (List (List ℕ))) (i : ℕ) → i < length records → Miscounted neededFields lineWidth (length (getD records i []))
+    → linesIn records ≡ none
 unfolding linesIn
 lines-counted [] i h other = absurd (omega arith)
-lines-counted (fields ∷ records) zero h other = rw (fields-counted lineFields fields other) refl
+lines-counted (fields ∷ records) zero h other = rw (fields-counted neededFields lineFields fields (omega arith) other) refl
 lines-counted (fields ∷ records) (suc i) h other =
-    rw (lines-counted records i (omega arith) other) (before-none (numbersIn lineFields fields))
+    rw (lines-counted records i (omega arith) other) (before-none (lineIn fields))
 
 module _ (text : List ℕ) (header : List (List ℕ)) (lines : List (List (List ℕ))) (cut : recordsOf text ≡ header ∷ lines) where
   typed-none : sheetIn (header ∷ lines) ≡ none → typedSheet text ≡ none
@@ -203,16 +248,16 @@ module _ (text : List ℕ) (header : List (List ℕ)) (lines : List (List (List 
   typed-none e = either-way (leb (length text) mostBytes) (λ l. rw (l, cut) e) (λ l. rw l refl)
 
   -- one that takes a header of four fields or two
-  pub header-counted : (length header ≡ 3 → ⊥) → typedSheet text ≡ none
-  header-counted other = typed-none (rw (fields-counted headerFields header other) refl)
+  pub header-counted : Miscounted 3 3 (length header) → typedSheet text ≡ none
+  header-counted other = typed-none (rw (fields-counted 3 headerFields header (omega arith) other) refl)
 
   no-lines : (numbers : Option (List ℕ)) → sheetTyped numbers none ≡ none
   no-lines none = refl
   no-lines (some numbers) = refl
 
-  -- one that takes a line of fourteen fields or twelve
-  pub line-counted : (i : ℕ) → i < length lines → (length (getD lines i []) ≡ 13 → ⊥) → typedSheet text ≡ none
-  line-counted i h other = typed-none (rw (lines-counted lines i h other) (no-lines (numbersIn headerFields header)))
+  -- one that takes a line of seventeen fields or twelve
+  pub line-counted : (i : ℕ) → i < length lines → Miscounted 13 16 (length (getD lines i [])) → typedSheet text ≡ none
+  line-counted i h other = typed-none (rw (lines-counted lines i h other) (no-lines (headerIn header)))
 
 -- ---- what the reader answers
 
@@ -316,65 +361,89 @@ no-file (suc n) l fault e = go (byLines n l) (l n) (no-file n l fault) e
     go (RefusedFile f) line other h = other h
     go (RefusedLine f i) line other h = clash (cc)
 
-module _ (book : List ℕ) where
-  -- a book that is not right, whatever the sheet
-  book-answer : (sheet : List ℕ) (room : ℕ) → bookOk book ≡ false → answerOf (lent book sheet) room ≡ RefusedFile BookMalformed
+-- of the sources only the book and the fugitive table are refused
+source-refusal : (from : Sources) (fault : FileFault) → bySources from ≡ RefusedFile fault → (fault ≡ BookMalformed) ⊎ (fault ≡ FugitiveMalformed)
+unfolding bySources
+source-refusal from fault e =
+    either-way (bookOk (from .book))
+    (λ b. either-way (fugitiveOk (from .fugitive))
+    (λ f. let z : Accepted ≡ RefusedFile fault = rw (b, f) at e in clash (cc))
+    (λ f. let z : RefusedFile FugitiveMalformed ≡ RefusedFile fault = rw (b, f) at e in inr (cc)))
+    (λ b. let z : RefusedFile BookMalformed ≡ RefusedFile fault = rw b at e in inl (cc))
+
+-- so 2 is not among them
+no-two : (from : Sources) (next : Outcome) → (next ≡ RefusedFile SheetMalformed → ⊥) → orNext (bySources from) next ≡ RefusedFile SheetMalformed → ⊥
+no-two from next other e = go (bySources from) refl e
+  where
+    go : (first : Outcome) → bySources from ≡ first → orNext first next ≡ RefusedFile SheetMalformed → ⊥
+    go Accepted is h = other h
+    go (RefusedFile fault) is h =
+        let two : fault ≡ SheetMalformed = cc in
+        ⊎-elim (λ (q : fault ≡ BookMalformed). clash (cc)) (λ (q : fault ≡ FugitiveMalformed). clash (cc)) (source-refusal from fault is)
+    go (RefusedLine fault line) is h = clash (cc)
+
+module _ (from : Sources) where
+  -- sources that are not right, whatever the sheet
+  sources-answer : (sheet : List ℕ) (room : ℕ) (fault : FileFault) → bySources from ≡ RefusedFile fault → answerOf (lent from sheet) room ≡ RefusedFile fault
   unfolding answerOf byFiles
-  book-answer sheet room wrong = rw wrong refl
+  sources-answer sheet room fault wrong = rw wrong refl
 
   -- a right sheet is never refused with 2
-  right-answer : (sheet : List ℕ) (room : ℕ) → sheetOk sheet ≡ true → answerOf (lent book sheet) room ≡ RefusedFile SheetMalformed → ⊥
+  right-answer : (sheet : List ℕ) (room : ℕ) → sheetOk sheet ≡ true → answerOf (lent from sheet) room ≡ RefusedFile SheetMalformed → ⊥
   unfolding answerOf byFiles
   right-answer sheet room right e =
-      either-way (bookOk book)
-      (λ b.
-      either-way (leb (tableSize (lineCount sheet)) room)
-      (λ t. no-file (lineCount sheet) (lineOutcome (lent book sheet)) SheetMalformed (rw (b, right, t) at e))
-      (λ t. let z : RefusedFile ResultTooShort ≡ RefusedFile SheetMalformed = rw (b, right, t) at e in clash (cc)))
-      (λ b. let z : RefusedFile BookMalformed ≡ RefusedFile SheetMalformed = rw b at e in clash (cc))
+      go (byFiles (lent from sheet) room) (no-two from (bySheet sheet room) sheet-other) e
+    where
+      sheet-other : bySheet sheet room ≡ RefusedFile SheetMalformed → ⊥
+      sheet-other h =
+          either-way (leb (tableSize (lineCount sheet)) room)
+          (λ t. let z : Accepted ≡ RefusedFile SheetMalformed = rw (right, t) at h in clash (cc))
+          (λ t. let z : RefusedFile ResultTooShort ≡ RefusedFile SheetMalformed = rw (right, t) at h in clash (cc))
 
-  short-answer : (sheet : List ℕ) (room : ℕ) → bookOk book ≡ true → sheetOk sheet ≡ true → room < tableSize (lineCount sheet)
-      → answerOf (lent book sheet) room ≡ RefusedFile ResultTooShort
+      go : (files : Outcome) → (files ≡ RefusedFile SheetMalformed → ⊥)
+          → orNext files (byLines (lineCount sheet) (lineOutcome (lent from sheet))) ≡ RefusedFile SheetMalformed → ⊥
+      go Accepted other h = no-file (lineCount sheet) (lineOutcome (lent from sheet)) SheetMalformed h
+      go (RefusedFile fault) other h = other h
+      go (RefusedLine fault line) other h = clash (cc)
+
+  short-answer : (sheet : List ℕ) (room : ℕ) → bySources from ≡ Accepted → sheetOk sheet ≡ true → room < tableSize (lineCount sheet)
+      → answerOf (lent from sheet) room ≡ RefusedFile ResultTooShort
   unfolding answerOf byFiles
   short-answer sheet room right good few = rw (right, good, lt-leb (tableSize (lineCount sheet)) room few) refl
 
-  module _ (text exact shown : List ℕ) (r : Outcome) (exact' shown' : List ℕ) (p : DeclaredText book text exact shown r exact' shown') where
-    -- one that looks at the text before the book: a wrong book is refused with 1 whatever the text and the room
-    pub book-first : bookOk book ≡ false → r ≡ RefusedFile BookMalformed
-    book-first wrong = go (sheetOfText text) p
+  module _ (text exact shown : List ℕ) (r : Outcome) (exact' shown' : List ℕ) (p : DeclaredText from text exact shown r exact' shown') where
+    -- one that looks at the text before the book and the fugitive table: where one of these is wrong it is refused whatever the text and the room
+    pub sources-first : (fault : FileFault) → bySources from ≡ RefusedFile fault → r ≡ RefusedFile fault
+    sources-first fault wrong = go (sheetOfText text) p
       where
-        go : (made : Made) → DeclaredBy book made exact shown r exact' shown' → r ≡ RefusedFile BookMalformed
-        go (Gives sheet) q = q .demand1 .answer ∙ book-answer sheet (min (length exact) (length shown)) wrong
+        go : (made : Made) → DeclaredBy from made exact shown r exact' shown' → r ≡ RefusedFile fault
+        go (Gives sheet) q = q .demand1 .answer ∙ sources-answer sheet (min (length exact) (length shown)) fault wrong
         go (Refuses refusal) q = q .answer ∙ rw wrong refl
 
     -- one that looks at the room before the text: a malformed text is refused with 12 whatever room there is, none included
-    pub text-second : bookOk book ≡ true → typedSheet text ≡ none → r ≡ RefusedFile TextMalformed
+    pub text-second : bySources from ≡ Accepted → typedSheet text ≡ none → r ≡ RefusedFile TextMalformed
     unfolding sheetOfText
     text-second right e =
-        let q : DeclaredBy book (Refuses (RefusedFile TextMalformed)) exact shown r exact' shown' = rw e at p in
+        let q : DeclaredBy from (Refuses (RefusedFile TextMalformed)) exact shown r exact' shown' = rw e at p in
         q .answer ∙ rw right refl
 
     -- one that looks at a line before the room
-    pub room-third : (sheet : List ℕ) → bookOk book ≡ true → sheetOfText text ≡ Gives sheet → min (length exact) (length shown) < tableSize (lineCount sheet)
+    pub room-third : (sheet : List ℕ) → bySources from ≡ Accepted → sheetOfText text ≡ Gives sheet → min (length exact) (length shown) < tableSize (lineCount sheet)
         → r ≡ RefusedFile ResultTooShort
     room-third sheet right made few =
-        let q : DeclaredBy book (Gives sheet) exact shown r exact' shown' = rw made at p in
+        let q : DeclaredBy from (Gives sheet) exact shown r exact' shown' = rw made at p in
         q .demand1 .answer ∙ short-answer sheet (min (length exact) (length shown)) right (made-right text sheet made) few
 
     -- one that answers with 2, which is no matter of a text
     pub never-two : r ≡ RefusedFile SheetMalformed → ⊥
     never-two is = go (sheetOfText text) refl p
       where
-        other-refusal : (refusal : Outcome) → sheetOfText text ≡ Refuses refusal → bookFirst book refusal ≡ RefusedFile SheetMalformed → ⊥
-        other-refusal refusal made e =
-            let twelve = made-refused text refusal made in
-            either-way (bookOk book)
-            (λ b. let z : RefusedFile TextMalformed ≡ RefusedFile SheetMalformed = rw (b, twelve) at e in clash (cc))
-            (λ b. let z : RefusedFile BookMalformed ≡ RefusedFile SheetMalformed = rw b at e in clash (cc))
+        twelve-is-other : (refusal : Outcome) → sheetOfText text ≡ Refuses refusal → refusal ≡ RefusedFile SheetMalformed → ⊥
+        twelve-is-other refusal made e = let z : RefusedFile TextMalformed ≡ RefusedFile SheetMalformed = sym (made-refused text refusal made) ∙ e in clash (cc)
 
-        go : (made : Made) → sheetOfText text ≡ made → DeclaredBy book made exact shown r exact' shown' → ⊥
+        go : (made : Made) → sheetOfText text ≡ made → DeclaredBy from made exact shown r exact' shown' → ⊥
         go (Gives sheet) made q = right-answer sheet (min (length exact) (length shown)) (made-right text sheet made) (sym (q .demand1 .answer) ∙ is)
-        go (Refuses refusal) made q = other-refusal refusal made (sym (q .answer) ∙ is)
+        go (Refuses refusal) made q = no-two from refusal (twelve-is-other refusal made) (sym (q .answer) ∙ is)
 
 -- ---- readings that are not used, refused with 9 or written by the writer
 

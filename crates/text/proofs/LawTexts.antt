@@ -14,7 +14,7 @@ use Rattle.desk.specs.declared.line.Line.{Line}
 use Rattle.text.specs.Typed.{lineWidth, firstReading}
 use Rattle.text.specs.declared.line.Readings.the-variants.{Used, BadOne}
 use Rattle.text.specs.Written.{recordText, mostRecord, readingsOf, usedOf, allTaken, readingTexts, lineTexts}
-use Rattle.text.specs.Inner.{readingsMade, textsFrom, wholeNumbers, LinePut}
+use Rattle.text.specs.Inner.{readingsMade, textsFrom, wholeNumbers, gradeNumbers, LinePut}
 use Rattle.numerals.specs.Laid.{Puts}
 use Rattle.text.proofs.LawUsed.{taken-first}
 
@@ -58,7 +58,7 @@ used-most line u a b c made = go (allTaken (usedOf line)) refl
 module _ (line : Line) where
   -- the numbers of its record, with these as a, b, c
   abbrev pub numbers : (a b c : ℕ) → List ℕ
-  numbers a b c = wholeNumbers line ++ (a ∷ b ∷ c ∷ [])
+  numbers a b c = wholeNumbers line ++ (a ∷ b ∷ c ∷ gradeNumbers (line .grades))
 
   fields-are : (ts : List ℕ) → length ts ≤ 3
       → textsFrom firstReading (firstReading + length ts) 0 (numbers (getD ts 0 0) (getD ts 1 0) (getD ts 2 0)) ≡ lineTexts line ts

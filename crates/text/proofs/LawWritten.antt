@@ -1,5 +1,5 @@
 -- What is written of a header or a line is read again as its numbers, field by field. Assumes nothing.
-use Prim.Native.Nat.{ℕ, zero, suc, _*_, _^_, _≤_, _<_}
+use Prim.Native.Nat.{ℕ, zero, suc, _*_, _-_, _^_, _≤_, _<_}
 use mathlib.Core.Path.{_≡_, refl}
 use mathlib.Core.List.{List, [], _∷_, _++_, map}
 use mathlib.Core.Option.{some}
@@ -22,9 +22,9 @@ use Rattle.numerals.specs.declared.typed.Typed.the-variants.{Is}
 use Rattle.numerals.proofs.LawBack.{number-back, decimal-back, zero-decimal}
 use Rattle.records.proofs.LawWhole.{plain-content}
 use Rattle.desk.specs.declared.line.Line.{Line}
-use Rattle.text.specs.Typed.{aReading, aCode, aKind, anAmount, headerFields, lineFields, fieldNumber, numbersIn}
-use Rattle.text.specs.Written.{readingsOf, usedOf, allTaken, readingTexts, lineTexts, headerTexts}
-use Rattle.text.specs.Inner.{padded, lineNumbers, wholeNumbers, headerNumbers}
+use Rattle.text.specs.Typed.{aReading, aCode, aKind, anAmount, aGrade, headerFields, neededFields, fieldNumber, numbersIn, headerIn, lineIn}
+use Rattle.text.specs.Written.{readingsOf, usedOf, allTaken, readingTexts, gradeTexts, lineTexts, headerTexts}
+use Rattle.text.specs.Inner.{padded, lineNumbers, wholeNumbers, gradeNumbers, headerNumbers}
 use Rattle.text.proofs.LawRecord.{written-numeral, written-decimal}
 use Rattle.text.proofs.LawUsed.{taken-first}
 
@@ -40,7 +40,7 @@ pub record FieldFits (takes n : ℕ) : Type 0 where
 pub field-fits : (takes n : ℕ) → T (leb 1 takes) → T (ltb takes (10 ^ mostDigits)) → n ≤ takes → FieldFits takes n
 field-fits takes n w f h = record { whole = leb→le 1 takes w; within = h; few = ltb→lt takes (10 ^ mostDigits) f }
 
-numeral-again : (takes n : ℕ) → FieldFits takes n → fieldNumber takes (numeral n) ≡ Is n
+pub numeral-again : (takes n : ℕ) → FieldFits takes n → fieldNumber takes (numeral n) ≡ Is n
 unfolding fieldNumber
 numeral-again takes n f =
     let some : takes ≡ aReading → ⊥ = λ e. omega arith in
@@ -64,35 +64,49 @@ pub data FieldsFit : (takes ns : List ℕ) → Type 0 where
 
 -- whole numbers, and then what follows them
 numerals-again : (takes ns others : List ℕ) (texts : List (List ℕ)) (numbers : List ℕ) → FieldsFit takes ns
-    → numbersIn others texts ≡ some numbers → numbersIn (takes ++ others) (map numeral ns ++ texts) ≡ some (ns ++ numbers)
+    → ((needed : ℕ) → numbersIn needed others texts ≡ some numbers)
+    → (needed : ℕ) → numbersIn needed (takes ++ others) (map numeral ns ++ texts) ≡ some (ns ++ numbers)
 unfolding numbersIn
-numerals-again [] [] others texts numbers done e = e
-numerals-again (t ∷ takes) (n ∷ ns) others texts numbers (f and fs) e =
-    rw (numeral-again t n f, numerals-again takes ns others texts numbers fs e)
+numerals-again [] [] others texts numbers done e needed = e needed
+numerals-again (t ∷ takes) (n ∷ ns) others texts numbers (f and fs) e needed =
+    rw (numeral-again t n f, numerals-again takes ns others texts numbers fs e (needed - 1))
 
 -- each of these can be typed as a reading
 abbrev pub Typable : (thousandths : List ℕ) → Type 0
 Typable ts = (j : ℕ) → getD ts j 0 < 10 ^ 14
 
-readings-again : (n : ℕ) (ts : List ℕ) → Typable ts → numbersIn (replicate n aReading) (readingTexts n ts) ≡ some (padded n ts)
-unfolding numbersIn readingTexts padded
-readings-again zero ts h = refl
-readings-again (suc n) [] h = rw (unused-again, readings-again n [] h)
-readings-again (suc n) (t ∷ ts) h = rw (decimal-again t (h 0), readings-again n ts (λ j. h (suc j)))
+module _ (others : List ℕ) (texts : List (List ℕ)) (numbers : List ℕ) (e : (needed : ℕ) → numbersIn needed others texts ≡ some numbers) where
+  readings-again : (n : ℕ) (ts : List ℕ) → Typable ts
+      → (needed : ℕ) → numbersIn needed (replicate n aReading ++ others) (readingTexts n ts ++ texts) ≡ some (padded n ts ++ numbers)
+  unfolding numbersIn readingTexts padded
+  readings-again zero ts h needed = e needed
+  readings-again (suc n) [] h needed = rw (unused-again, readings-again n [] h (needed - 1))
+  readings-again (suc n) (t ∷ ts) h needed = rw (decimal-again t (h 0), readings-again n ts (λ j. h (suc j)) (needed - 1))
 
 -- a line's whole numbers; its readings follow them
 abbrev pub wholeFields : List ℕ
 wholeFields = aCode ∷ aCode ∷ aCode ∷ aCode ∷ aCode ∷ aCode ∷ aCode ∷ aKind ∷ anAmount ∷ anAmount ∷ []
 
-pub line-again : (line : Line) (ts : List ℕ) → FieldsFit wholeFields (wholeNumbers line) → Typable ts
-    → numbersIn lineFields (lineTexts line ts) ≡ some (lineNumbers line ts)
-unfolding lineTexts lineNumbers
-line-again line ts f h =
-    numerals-again wholeFields (wholeNumbers line) (replicate 3 aReading) (readingTexts 3 ts) (padded 3 ts) f (readings-again 3 ts h)
+-- and these its grades
+abbrev pub gradeFields : List ℕ
+gradeFields = aGrade ∷ aGrade ∷ aGrade ∷ []
 
-pub header-again : (s : List ℕ) → FieldsFit headerFields (headerNumbers s) → numbersIn headerFields (headerTexts s) ≡ some (headerNumbers s)
+nothing-again : (needed : ℕ) → numbersIn needed [] [] ≡ some []
 unfolding numbersIn
-header-again s f = numerals-again headerFields (headerNumbers s) [] [] [] f refl
+nothing-again needed = refl
+
+pub line-again : (line : Line) (ts : List ℕ) → FieldsFit wholeFields (wholeNumbers line) → FieldsFit gradeFields (gradeNumbers (line .grades)) → Typable ts
+    → lineIn (lineTexts line ts) ≡ some (lineNumbers line ts)
+unfolding lineTexts lineNumbers
+line-again line ts f g h =
+    let graded = gradeNumbers (line .grades) in
+    let grades = numerals-again gradeFields graded [] [] [] g nothing-again in
+    let readings = readings-again gradeFields (gradeTexts (line .grades)) graded grades 3 ts h in
+    numerals-again wholeFields (wholeNumbers line) (replicate 3 aReading ++ gradeFields) (readingTexts 3 ts ++ gradeTexts (line .grades)) (padded 3 ts ++ graded) f readings
+    neededFields
+
+pub header-again : (s : List ℕ) → FieldsFit headerFields (headerNumbers s) → headerIn (headerTexts s) ≡ some (headerNumbers s)
+header-again s f = numerals-again headerFields (headerNumbers s) [] [] [] f nothing-again 3
 
 -- ---- what a line uses
 

@@ -7,7 +7,7 @@ use lib.ListN.{length, getD}
 use Rattle.headers.specs.Sheet.{sheetHeaderSize, lineSize}
 use Rattle.amounts.specs.Reading.{partsBits}
 use Rattle.numerals.specs.Word.{word}
-use Rattle.text.specs.Typed.{firstReading, TypedSheet}
+use Rattle.text.specs.Typed.{firstReading, firstGrade, TypedSheet}
 
 -- numbers as little-endian words of these sizes, one after the other
 unfoldable pub wordsOf : (sizes numbers : List ℕ) → List ℕ
@@ -34,9 +34,9 @@ usedReadings technique kind = cond (eqb technique 0) 0 (cond (eqb kind 1) 2 (con
 unfoldable pub readingBits : (line : List ℕ) (r : ℕ) → ℕ
 readingBits line r = cond (ltb r (usedReadings (techniqueOf line) (kindOf line))) (partsBits (numberAt line (firstReading + r))) 0
 
--- seven codes, the kind, a zero byte, product and material, a, b, c, eight zero bytes
+-- seven codes, the kind, a zero byte, product and material, a, b, c, three grades, five zero bytes
 abbrev pub lineSizes : List ℕ
-lineSizes = 2 ∷ 2 ∷ 2 ∷ 2 ∷ 2 ∷ 2 ∷ 2 ∷ 1 ∷ 1 ∷ 8 ∷ 8 ∷ 8 ∷ 8 ∷ 8 ∷ 8 ∷ []
+lineSizes = 2 ∷ 2 ∷ 2 ∷ 2 ∷ 2 ∷ 2 ∷ 2 ∷ 1 ∷ 1 ∷ 8 ∷ 8 ∷ 8 ∷ 8 ∷ 8 ∷ 1 ∷ 1 ∷ 1 ∷ 1 ∷ 4 ∷ []
 
 unfoldable pub lineWords : (line : List ℕ) → List ℕ
 lineWords line =
@@ -54,6 +54,10 @@ lineWords line =
     ∷ readingBits line 0
     ∷ readingBits line 1
     ∷ readingBits line 2
+    ∷ numberAt line firstGrade
+    ∷ numberAt line (firstGrade + 1)
+    ∷ numberAt line (firstGrade + 2)
+    ∷ 0
     ∷ 0
     ∷ []
 

@@ -1,5 +1,5 @@
 -- What private functions ask and answer, beside what a promise says. Nothing here is needed to read a promise.
-use Prim.Native.Nat.{ℕ, zero, suc, _+_, _*_, _≤_, _<_}
+use Prim.Native.Nat.{ℕ, zero, suc, _+_, _*_, _-_, _≤_, _<_}
 use mathlib.Core.Path.{_≡_}
 use mathlib.Core.Bool.{Bool, false, cond, _&&_}
 use mathlib.Core.List.{List, [], _∷_, _++_}
@@ -43,6 +43,7 @@ use Rattle.answers.specs.declared.answer.LineFault.the-variants.{BadReading}
 use Rattle.numerals.specs.Numeral.{mostDigits, numeral, decimalNumeral}
 use Rattle.records.specs.Records.{comma}
 use Rattle.desk.specs.declared.line.Line.{Line}
+use Rattle.fugitive.specs.declared.grades.Grades.{Grades}
 
 -- ---- how a conversion ends
 
@@ -58,35 +59,40 @@ pub record Finished (end : ℕ) (bytes : List ℕ) (r : Converted) (bytes' : Lis
 
 -- ---- a field
 
--- a number, where the field is its record's last exactly if it should be
-unfoldable pub takenIf : (number : ℕ) (follows : Behind) (last : Bool) → FieldRead
-takenIf number (Field next) last = cond last one.Broken (one.Number number next)
-takenIf number (Record next) last = cond last (one.Number number next) one.Broken
+-- a number, and whether its field is the record's last
+abbrev pub led : (number : ℕ) (follows : Behind) → FieldRead
+led number (Field next) = one.More number next
+led number (Record next) = one.Last number next
 
-abbrev pub withNumber : (typed : Typed) (follows : Behind) (last : Bool) → FieldRead
-withNumber (Is number) follows last = takenIf number follows last
-withNumber Malformed follows last = one.Broken
+abbrev pub withNumber : (typed : Typed) (follows : Behind) → FieldRead
+withNumber (Is number) follows = led number follows
+withNumber Malformed follows = one.Broken
 
 -- what is asked for, if it stands there
 unfoldable pub fieldAhead : (text : List ℕ) (at takes : ℕ) → Ahead
 fieldAhead text at takes = cond (eqb takes aReading) (decimalFrom text at) (numberFrom mostDigits takes text at)
 
-unfoldable pub fieldRead : (text : List ℕ) (at takes : ℕ) (last : Bool) → FieldRead
-fieldRead text at takes last = withNumber (fieldNumber takes (pieces false (drop at text) .field)) (behind text (fieldEnd text at)) last
+unfoldable pub fieldRead : (text : List ℕ) (at takes : ℕ) → FieldRead
+fieldRead text at takes = withNumber (fieldNumber takes (pieces false (drop at text) .field)) (behind text (fieldEnd text at))
 
 -- ---- a record
 
--- there is a place for each number, and at least one is asked for
-pub record Recordable (takes numbers : List ℕ) : Type 0 where
+-- there is a place for each number, and no more are needed than are asked for
+pub record Recordable (needed : ℕ) (takes numbers : List ℕ) : Type 0 where
   pub same : length numbers ≡ length takes
-  pub some : 0 < length takes
+  pub asked : needed ≤ length takes
+
+-- a record that ends behind so many fields: the places of those that are left off are 0
+pub record Ended (fields needed next : ℕ) (numbers : List ℕ) (r : RecordRead) (numbers' : List ℕ) : Type 0 where
+  pub answer : r ≡ cond (ltb fields needed) whole.Broken (whole.Next next)
+  pub holds : needed ≤ fields → numbers' ≡ take fields numbers ++ replicate (length numbers - fields) 0
 
 -- the numbers of the record that begins there, and where the next one begins
-abbrev pub RecordFound : (text : List ℕ) (at : ℕ) (takes : List ℕ) (r : RecordRead) (numbers' : List ℕ) → Type 0
-RecordFound text at takes (whole.Next next) numbers' =
-    (numbersIn takes (recordIn (pieces false (drop at text))) ≡ some numbers')
+abbrev pub RecordFound : (text : List ℕ) (at needed : ℕ) (takes : List ℕ) (r : RecordRead) (numbers' : List ℕ) → Type 0
+RecordFound text at needed takes (whole.Next next) numbers' =
+    (numbersIn needed takes (recordIn (pieces false (drop at text))) ≡ some numbers')
     × (following (pieces false (drop at text) .records) ≡ recordsOf (drop next text))
-RecordFound text at takes whole.Broken numbers' = numbersIn takes (recordIn (pieces false (drop at text))) ≡ none
+RecordFound text at needed takes whole.Broken numbers' = numbersIn needed takes (recordIn (pieces false (drop at text))) ≡ none
 
 -- ---- the lines
 
@@ -120,7 +126,7 @@ abbrev pub SheetFound : (text sheet : List ℕ) (r : LinesRead) (sheet' : List �
 SheetFound text sheet (all.Lines n) sheet' = SheetLaid text sheet n sheet'
 SheetFound text sheet all.Broken sheet' = typedSheet text ≡ none
 
--- ---- the bytes of a line: seven codes; the kind, a zero byte, two amounts; three readings, eight zero bytes
+-- ---- the bytes of a line: seven codes; the kind, a zero byte, two amounts; three readings; three grades, five zero bytes
 
 unfoldable pub codeBytes : (line : List ℕ) → List ℕ
 codeBytes line = wordsOf (take 7 lineSizes) (take 7 (lineWords line))
@@ -129,7 +135,10 @@ unfoldable pub amountBytes : (line : List ℕ) → List ℕ
 amountBytes line = wordsOf (take 4 (drop 7 lineSizes)) (take 4 (drop 7 (lineWords line)))
 
 unfoldable pub readingBytes : (line : List ℕ) → List ℕ
-readingBytes line = wordsOf (drop 11 lineSizes) (drop 11 (lineWords line))
+readingBytes line = wordsOf (take 3 (drop 11 lineSizes)) (take 3 (drop 11 (lineWords line)))
+
+unfoldable pub gradeBytes : (line : List ℕ) → List ℕ
+gradeBytes line = wordsOf (drop 14 lineSizes) (drop 14 (lineWords line))
 
 -- ---- what is written
 
@@ -175,8 +184,7 @@ LinesWritten s at text (linesEnd.BadReading line) text' =
 -- as many as there are fields for readings, 0 for those that are not used
 unfoldable pub padded : (fields : ℕ) (thousandths : List ℕ) → List ℕ
 padded zero ts = []
-padded (suc n) [] = 0 ∷ padded n []
-padded (suc n) (t ∷ ts) = t ∷ padded n ts
+padded (suc n) ts = getD ts 0 0 ∷ padded n (drop 1 ts)
 
 -- the ten whole numbers of a line
 abbrev pub wholeNumbers : (line : Line) → List ℕ
@@ -193,8 +201,12 @@ wholeNumbers line =
     ∷ line .material
     ∷ []
 
+-- its grades
+abbrev pub gradeNumbers : (g : Grades) → List ℕ
+gradeNumbers g = g .crushing ∷ g .tapping ∷ g .spill ∷ []
+
 unfoldable pub lineNumbers : (line : Line) (thousandths : List ℕ) → List ℕ
-lineNumbers line ts = wholeNumbers line ++ padded readingFields ts
+lineNumbers line ts = wholeNumbers line ++ (padded readingFields ts ++ gradeNumbers (line .grades))
 
 -- the used readings of a line that has no bad one
 abbrev pub takenNumbers : Option (List ℕ) → List ℕ

@@ -1,6 +1,6 @@
 -- "Sheets typed in a spreadsheet": a text as numbers. The first record has the medium, the pollutant and the shown unit, then one record a
--- line has its fields in the order of the binary sheet.
-use Prim.Native.Nat.{ℕ}
+-- line has its fields in the order of the binary sheet. Of a line's last fields those that are left off count as 0.
+use Prim.Native.Nat.{ℕ, zero, suc, _-_}
 use mathlib.Core.Bool.{Bool, true, cond, _&&_}
 use mathlib.Core.List.{List, [], _∷_}
 use mathlib.Core.Option.{Option, none, some}
@@ -39,24 +39,35 @@ aUnit = 3
 abbrev pub aKind : ℕ
 aKind = 3
 
+-- a u8: which grades are taken the desk says
+abbrev pub aGrade : ℕ
+aGrade = 255
+
 -- medium, pollutant, shown unit
 abbrev pub headerFields : List ℕ
 headerFields = aMedium ∷ aPollutant ∷ aUnit ∷ []
 
--- industry, product, material, process, scale, technique, reuse, kind, product kg, material kg, a, b, c
+-- industry, product, material, process, scale, technique, reuse, kind, product kg, material kg, a, b, c, crushing, tapping, spill
 abbrev pub lineFields : List ℕ
 lineFields =
-    aCode ∷ aCode ∷ aCode ∷ aCode ∷ aCode ∷ aCode ∷ aCode ∷ aKind ∷ anAmount ∷ anAmount ∷ aReading ∷ aReading ∷ aReading ∷ []
+    aCode ∷ aCode ∷ aCode ∷ aCode ∷ aCode ∷ aCode ∷ aCode ∷ aKind ∷ anAmount ∷ anAmount ∷ aReading ∷ aReading ∷ aReading ∷ aGrade ∷ aGrade
+    ∷ aGrade ∷ []
 
--- the fields of a line, the first of its readings, and how many these are
+-- the fields of a line, and how many of them are needed; the first of its readings, and how many these are; the first of its grades
 abbrev pub lineWidth : ℕ
 lineWidth = length lineFields
+
+abbrev pub neededFields : ℕ
+neededFields = 13
 
 abbrev pub firstReading : ℕ
 firstReading = 10
 
 abbrev pub readingFields : ℕ
 readingFields = 3
+
+abbrev pub firstGrade : ℕ
+firstGrade = 13
 
 -- the number of a field; of a reading its thousandths
 unfoldable pub fieldNumber : (takes : ℕ) (field : List ℕ) → Typed
@@ -69,12 +80,24 @@ followed Malformed others = none
 followed (Is n) none = none
 followed (Is n) (some ns) = some (n ∷ ns)
 
--- a field for each that is asked for, and no other
-unfoldable pub numbersIn : (takes : List ℕ) (fields : List (List ℕ)) → Option (List ℕ)
-numbersIn [] [] = some []
-numbersIn [] (field ∷ fields) = none
-numbersIn (t ∷ takes) [] = none
-numbersIn (t ∷ takes) (field ∷ fields) = followed (fieldNumber t field) (numbersIn takes fields)
+-- what is left off counts as 0, unless it is needed
+abbrev pub leftOff : (needed : ℕ) (others : Option (List ℕ)) → Option (List ℕ)
+leftOff zero others = followed (Is 0) others
+leftOff (suc needed) others = none
+
+-- a field for each that is asked for, of which the first so many are needed, and no other
+unfoldable pub numbersIn : (needed : ℕ) (takes : List ℕ) (fields : List (List ℕ)) → Option (List ℕ)
+numbersIn needed [] [] = some []
+numbersIn needed [] (field ∷ fields) = none
+numbersIn needed (t ∷ takes) [] = leftOff needed (numbersIn (needed - 1) takes [])
+numbersIn needed (t ∷ takes) (field ∷ fields) = followed (fieldNumber t field) (numbersIn (needed - 1) takes fields)
+
+-- of the header all three are needed
+abbrev pub headerIn : (fields : List (List ℕ)) → Option (List ℕ)
+headerIn fields = numbersIn 3 headerFields fields
+
+abbrev pub lineIn : (fields : List (List ℕ)) → Option (List ℕ)
+lineIn fields = numbersIn neededFields lineFields fields
 
 abbrev pub before : (line : Option (List ℕ)) (others : Option (List (List ℕ))) → Option (List (List ℕ))
 before none others = none
@@ -83,7 +106,7 @@ before (some line) (some lines) = some (line ∷ lines)
 
 unfoldable pub linesIn : (records : List (List (List ℕ))) → Option (List (List ℕ))
 linesIn [] = some []
-linesIn (fields ∷ records) = before (numbersIn lineFields fields) (linesIn records)
+linesIn (fields ∷ records) = before (lineIn fields) (linesIn records)
 
 -- a sheet as it was typed: the header's numbers, and each line's
 pub record TypedSheet : Type 0 where
@@ -107,7 +130,7 @@ sheetTyped (some header) (some lines) = cond (noneZero header) (some (record { h
 
 abbrev pub sheetIn : (records : List (List (List ℕ))) → Option TypedSheet
 sheetIn [] = none
-sheetIn (header ∷ lines) = sheetTyped (numbersIn headerFields header) (fewLines (linesIn lines))
+sheetIn (header ∷ lines) = sheetTyped (headerIn header) (fewLines (linesIn lines))
 
 -- the sheet that a text of at most 65,536 bytes is
 unfoldable pub typedSheet : (text : List ℕ) → Option TypedSheet

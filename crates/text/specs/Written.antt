@@ -19,6 +19,7 @@ use Rattle.answers.specs.declared.answer.Outcome.the-variants.{RefusedFile, Ref
 use Rattle.desk.specs.Sheet.{sheetOk}
 use Rattle.desk.specs.Line.{lineOf}
 use Rattle.desk.specs.declared.line.Line.{Line}
+use Rattle.fugitive.specs.declared.grades.Grades.{Grades}
 use Rattle.text.specs.Convert.{Made, Gives, Refuses}
 use Rattle.text.specs.Typed.{headerFields, lineWidth, readingFields}
 
@@ -83,6 +84,9 @@ readingTexts zero ts = []
 readingTexts (suc n) [] = numeral 0 ∷ readingTexts n []
 readingTexts (suc n) (t ∷ ts) = decimalNumeral t ∷ readingTexts n ts
 
+abbrev pub gradeTexts : Grades → List (List ℕ)
+gradeTexts g = numeral (g .crushing) ∷ numeral (g .tapping) ∷ numeral (g .spill) ∷ []
+
 unfoldable pub lineTexts : (line : Line) (thousandths : List ℕ) → List (List ℕ)
 lineTexts line ts =
     numeral (line .key .industry)
@@ -95,7 +99,7 @@ lineTexts line ts =
     ∷ numeral (kindNumber (line .reading))
     ∷ numeral (line .product)
     ∷ numeral (line .material)
-    ∷ readingTexts readingFields ts
+    ∷ (readingTexts readingFields ts ++ gradeTexts (line .grades))
 
 -- ---- the sheet
 

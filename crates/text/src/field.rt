@@ -1,7 +1,10 @@
 // The fields of a record, as numbers.
 ghost use mathlib.Core.Path.{_≡_};
 ghost use Rattle.text.specs.Typed.{fieldNumber};
-ghost use Rattle.text.specs.Inner.{takenIf, fieldAhead, fieldRead, Recordable, RecordFound};
+ghost use Prim.Native.Nat.{_≤_};
+ghost use lib.ListN.{length};
+ghost use Rattle.text.specs.Inner.{led, fieldAhead, fieldRead, Recordable, Ended, RecordFound};
+use little::cells::clear;
 use little::part::part;
 use numerals::ahead::Ahead;
 use numerals::ahead::decimal_from;
@@ -16,14 +19,19 @@ use records::field::field_end;
 use records::field::field_ends;
 use records::field::what_follows;
 
-// The fields of a line's record, and of these the technique, the kind and the first reading, counted from 0.
-pub(crate) const LINE_FIELDS: usize = 13;
+// The fields of a line's record, and how many of these are needed; of the others those that are left off count as 0.
+pub(crate) const LINE_FIELDS: usize = 16;
 
+pub(crate) const NEEDED_FIELDS: usize = 13;
+
+// Of these the technique, the kind, the first reading and the first grade, counted from 0.
 pub(crate) const TECHNIQUE: usize = 5;
 
 pub(crate) const KIND: usize = 7;
 
 pub(crate) const FIRST_READING: usize = 10;
+
+pub(crate) const FIRST_GRADE: usize = 13;
 
 // The fields of the header's record.
 pub(crate) const HEADER_FIELDS: usize = 3;
@@ -31,9 +39,10 @@ pub(crate) const HEADER_FIELDS: usize = 3;
 // What stands for a reading in a list of the largest numbers that fields take.
 pub(crate) const A_READING: u64 = 0;
 
-// A field's number, and where what follows it begins; or the record is malformed there.
+// A field's number, and where what follows it begins: more of its record, or, behind its last field, the next one; or no number.
 pub(crate) enum FieldRead {
-    Number(u64, usize),
+    More(u64, usize),
+    Last(u64, usize),
     Broken,
 }
 
@@ -54,37 +63,24 @@ fn field_number(field: &[u8], takes: u64) -> Typed
     }
 }
 
-// A number is taken only where the field is its record's last exactly if it should be.
-fn followed(number: u64, follows: Behind, last: bool) -> FieldRead
-    ensures { λ r. ⌜ r ≡ takenIf number follows last ⌝ }
+fn followed(number: u64, follows: Behind) -> FieldRead
+    ensures { λ r. ⌜ r ≡ led number follows ⌝ }
 {
     match follows {
-        Behind::Field(next) => {
-            if last {
-                FieldRead::Broken
-            } else {
-                FieldRead::Number(number, next)
-            }
-        }
-        Behind::Record(next) => {
-            if last {
-                FieldRead::Number(number, next)
-            } else {
-                FieldRead::Broken
-            }
-        }
+        Behind::Field(next) => FieldRead::More(number, next),
+        Behind::Record(next) => FieldRead::Last(number, next),
     }
 }
 
 // The field that begins at `at`, with quotes or without.
-fn any_field(text: &[u8], at: usize, takes: u64, last: bool) -> FieldRead
-    ensures { λ r. ⌜ r ≡ fieldRead (now (text .entry)) at takes last ⌝ }
+fn any_field(text: &[u8], at: usize, takes: u64) -> FieldRead
+    ensures { λ r. ⌜ r ≡ fieldRead (now (text .entry)) at takes ⌝ }
 {
     let end = field_end(text, at);
     let Typed::Is(number) = field_number(part(text, at, end - at), takes) else {
         return FieldRead::Broken;
     };
-    followed(number, what_follows(text, end), last)
+    followed(number, what_follows(text, end))
 }
 
 // What is asked for, if it stands there, whatever follows it.
@@ -100,34 +96,57 @@ fn number_ahead(text: &[u8], at: usize, takes: u64) -> Ahead
 
 // The field that begins at `at`. Nearly every one is a numeral without quotes, and is read in one pass: the number that stands there, if
 // the field ends with it.
-fn field_at(text: &[u8], at: usize, takes: u64, last: bool) -> FieldRead
-    ensures { λ r. ⌜ r ≡ fieldRead (now (text .entry)) at takes last ⌝ }
+fn field_at(text: &[u8], at: usize, takes: u64) -> FieldRead
+    ensures { λ r. ⌜ r ≡ fieldRead (now (text .entry)) at takes ⌝ }
 {
     let Ahead::Number(number, end) = number_ahead(text, at, takes) else {
-        return any_field(text, at, takes, last);
+        return any_field(text, at, takes);
     };
     if field_ends(text, end) {
-        followed(number, what_follows(text, end), last)
+        followed(number, what_follows(text, end))
     } else {
-        any_field(text, at, takes, last)
+        any_field(text, at, takes)
     }
 }
 
-// The numbers of the record that begins at `at`: a field for each that is asked for, and no other.
-pub(crate) fn read_record(text: &[u8], at: usize, takes: &[u64], numbers: &mut [u64]) -> RecordRead
-    requires { ⌜ Recordable (now takes) (now numbers) ⌝ }
-    ensures { λ r. ⌜ RecordFound (now (text .entry)) at (now (takes .entry)) r (now (numbers .exit)) ⌝ }
+// The record ends behind so many fields. The numbers of those that are left off are 0.
+fn ended(numbers: &mut [u64], fields: usize, needed: usize, next: usize) -> RecordRead
+    requires { ⌜ fields ≤ length (now numbers) ⌝ }
+    ensures { λ r. ⌜ Ended fields needed next (now (numbers .entry)) r (now (numbers .exit)) ⌝ }
+{
+    if fields < needed {
+        return RecordRead::Broken;
+    }
+    clear(&mut numbers[fields..]);
+    RecordRead::Next(next)
+}
+
+// The numbers of the record that begins at `at`: a field for each that is asked for, of which the first so many are needed, and no other.
+pub(crate) fn read_record(
+    text: &[u8],
+    at: usize,
+    needed: usize,
+    takes: &[u64],
+    numbers: &mut [u64],
+) -> RecordRead
+    requires { ⌜ Recordable needed (now takes) (now numbers) ⌝ }
+    ensures { λ r. ⌜ RecordFound (now (text .entry)) at needed (now (takes .entry)) r (now (numbers .exit)) ⌝ }
 {
     let mut next = at;
     let mut j = 0;
     while j < takes.len() {
-        let FieldRead::Number(number, after) = field_at(text, next, takes[j], j + 1 == takes.len())
-        else {
-            return RecordRead::Broken;
-        };
-        numbers[j] = number;
-        next = after;
-        j += 1;
+        match field_at(text, next, takes[j]) {
+            FieldRead::Broken => return RecordRead::Broken,
+            FieldRead::Last(number, after) => {
+                numbers[j] = number;
+                return ended(numbers, j + 1, needed, after);
+            }
+            FieldRead::More(number, after) => {
+                numbers[j] = number;
+                next = after;
+                j += 1;
+            }
+        }
     }
-    RecordRead::Next(next)
+    RecordRead::Broken
 }

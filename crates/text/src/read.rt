@@ -8,6 +8,7 @@ use super::convert::refused;
 use super::field::A_READING;
 use super::field::HEADER_FIELDS;
 use super::field::LINE_FIELDS;
+use super::field::NEEDED_FIELDS;
 use super::field::RecordRead;
 use super::field::read_record;
 use super::words::lay_header;
@@ -35,6 +36,8 @@ const A_UNIT: u64 = 3;
 
 const A_KIND: u64 = 3;
 
+const A_GRADE: u64 = 255;
+
 // How many lines were laid; or the text is malformed.
 enum LinesRead {
     Lines(usize),
@@ -59,6 +62,9 @@ fn lay_lines(text: &[u8], at: usize, sheet: &mut [u8]) -> LinesRead
         A_READING,
         A_READING,
         A_READING,
+        A_GRADE,
+        A_GRADE,
+        A_GRADE,
     ];
     let mut numbers = [0u64; LINE_FIELDS];
     let mut next = at;
@@ -67,7 +73,8 @@ fn lay_lines(text: &[u8], at: usize, sheet: &mut [u8]) -> LinesRead
         if lines == MOST_LINES {
             return LinesRead::Broken;
         }
-        let RecordRead::Next(after) = read_record(text, next, &takes, &mut numbers) else {
+        let RecordRead::Next(after) = read_record(text, next, NEEDED_FIELDS, &takes, &mut numbers)
+        else {
             return LinesRead::Broken;
         };
         lay_line(sheet, lines, &numbers);
@@ -86,7 +93,7 @@ fn lay_sheet(text: &[u8], sheet: &mut [u8]) -> LinesRead
     }
     let takes = [A_MEDIUM, A_POLLUTANT, A_UNIT];
     let mut header = [0u64; HEADER_FIELDS];
-    let RecordRead::Next(at) = read_record(text, 0, &takes, &mut header) else {
+    let RecordRead::Next(at) = read_record(text, 0, HEADER_FIELDS, &takes, &mut header) else {
         return LinesRead::Broken;
     };
     if (header[0] == 0) | (header[1] == 0) | (header[2] == 0) {

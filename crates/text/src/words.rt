@@ -7,7 +7,8 @@ ghost use Rattle.headers.specs.Sheet.{mostLines};
 ghost use Rattle.numerals.specs.Laid.{laid, Puts};
 ghost use Rattle.text.specs.Binary.{usedReadings, readingBits, wordsOf, lineBytes, headerSizes, headerWords, sheetSize};
 ghost use Rattle.text.specs.Typed.{lineWidth, readingFields};
-ghost use Rattle.text.specs.Inner.{codeBytes, amountBytes, readingBytes};
+ghost use Rattle.text.specs.Inner.{codeBytes, amountBytes, readingBytes, gradeBytes};
+use super::field::FIRST_GRADE;
 use super::field::FIRST_READING;
 use super::field::KIND;
 use super::field::TECHNIQUE;
@@ -73,16 +74,29 @@ fn lay_amounts(sheet: &mut [u8], at: usize, numbers: &[u64]) -> usize
     next
 }
 
-// a, b, c and eight zero bytes.
+// a, b, c.
 fn lay_readings(sheet: &mut [u8], at: usize, numbers: &[u64]) -> usize
     requires { ⌜ (length (now numbers) ≡ lineWidth) × (at < mostBytes) ⌝ }
-    ensures { λ r. ⌜ Puts (readingBytes (now (numbers .entry))) 32 at (now (sheet .entry)) r (now (sheet .exit)) ⌝ }
+    ensures { λ r. ⌜ Puts (readingBytes (now (numbers .entry))) 24 at (now (sheet .entry)) r (now (sheet .exit)) ⌝ }
 {
     let mut next = at;
     next += eight_bytes(sheet, next, reading_bits(numbers, 0));
     next += eight_bytes(sheet, next, reading_bits(numbers, 1));
     next += eight_bytes(sheet, next, reading_bits(numbers, 2));
-    next += eight_bytes(sheet, next, 0);
+    next
+}
+
+// The grades and five zero bytes.
+fn lay_grades(sheet: &mut [u8], at: usize, numbers: &[u64]) -> usize
+    requires { ⌜ (length (now numbers) ≡ lineWidth) × (at < mostBytes) ⌝ }
+    ensures { λ r. ⌜ Puts (gradeBytes (now (numbers .entry))) 8 at (now (sheet .entry)) r (now (sheet .exit)) ⌝ }
+{
+    let mut next = at;
+    next += one_byte(sheet, next, numbers[FIRST_GRADE]);
+    next += one_byte(sheet, next, numbers[FIRST_GRADE + 1]);
+    next += one_byte(sheet, next, numbers[FIRST_GRADE + 2]);
+    next += one_byte(sheet, next, 0);
+    next += four_bytes(sheet, next, 0);
     next
 }
 
@@ -94,7 +108,8 @@ pub(crate) fn lay_line(sheet: &mut [u8], i: usize, numbers: &[u64])
     let at = HEADER_SIZE + LINE_SIZE * i;
     let amounts = lay_codes(sheet, at, numbers);
     let readings = lay_amounts(sheet, amounts, numbers);
-    lay_readings(sheet, readings, numbers);
+    let grades = lay_readings(sheet, readings, numbers);
+    lay_grades(sheet, grades, numbers);
 }
 
 // The header of a sheet of so many lines.

@@ -113,6 +113,9 @@ fn lay_line(text: &mut [u8], at: usize, line: Line) -> LineText
         a,
         b,
         c,
+        line.grades.crushing as u64,
+        line.grades.tapping as u64,
+        line.grades.spill as u64,
     ];
     LineText::Ends(lay_record(text, at, &numbers, FIRST_READING, FIRST_READING + used))
 }

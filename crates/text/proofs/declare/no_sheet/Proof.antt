@@ -4,7 +4,7 @@ use Rattle.text.proofs.declare.no_sheet.Statement.{statement}
 use Rattle.text.proofs.declare.no_sheet.Tie as tie
 
 returns : tie.Need-returns
-returns c = record { answer = c .book-first .ensures; exactZero = c .before .before .before .before .before .before .before .clear .ensures; shownZero = c .before .before .before .clear2 .ensures }
+returns c = record { answer = c .sources-first .ensures; exactZero = c .before .before .before .before .before .before .before .clear .ensures; shownZero = c .before .before .before .clear2 .ensures }
 
 pub no-sheet-spec : {M : Type 1} → statement M
 no-sheet-spec = tie.close

@@ -13,7 +13,7 @@ sub-part c = omega (arith, c .field-end .ensures, field-start (c .before .before
 returns : tie.Need-returns
 returns c =
     read-broken (c .before .before .before .before .before .before .args .text .now) (c .before .before .before .before .before .before .args .at) (c .before .before .before .before .before .before .args .takes)
-    (c .before .before .before .before .before .before .args .last) (c .before .match .keys2)
+    (c .before .match .keys2)
     (number-there (c .before .before .before .before .before .before .args .text .now) (c .before .before .before .before .before .before .args .at) (c .before .before .before .before .before .before .args .takes)
     (c .before .before .before .before .field-end .ensures) (c .before .before .before .part .ensures) (c .before .before .field-number .ensures))
 
@@ -21,7 +21,7 @@ returns-2 : tie.Need-returns-2
 returns-2 c =
     c .followed .ensures
     ∙ read-number (c .before .before .before .before .before .before .before .before .before .args .text .now) (c .before .before .before .before .before .before .before .before .before .args .at)
-    (c .before .before .before .before .before .before .before .before .before .args .takes) (c .before .before .before .before .before .before .before .before .before .args .last) (c .before .before .before .number .given .1)
+    (c .before .before .before .before .before .before .before .before .before .args .takes) (c .before .before .before .number .given .1)
     (number-there (c .before .before .before .before .before .before .before .before .before .args .text .now) (c .before .before .before .before .before .before .before .before .before .args .at)
     (c .before .before .before .before .before .before .before .before .before .args .takes) (c .before .before .before .before .before .before .before .field-end .ensures)
     (c .before .before .before .before .before .before .part .ensures) (c .before .before .before .before .before .field-number .ensures))

@@ -12,7 +12,7 @@ returns-2 c =
     let field-ends = c .before .before .before .field-ends in
     let what-follows = c .before .what-follows in
     let if1 = c .before .before .if1 in
-    c .followed .ensures ∙ rw (what-follows .ensures) (read-ahead _ _ _ _ _ _ (sym (field-ends .ensures) ∙ if1 .taken) (sym (number-ahead .ensures) ∙ number .given .1))
+    c .followed .ensures ∙ rw (what-follows .ensures) (read-ahead _ _ _ _ _ (sym (field-ends .ensures) ∙ if1 .taken) (sym (number-ahead .ensures) ∙ number .given .1))
 
 pub field-at-spec : {M : Type 1} → statement M
 field-at-spec =

@@ -5,14 +5,14 @@ use native.Mathlib.Omega.{arith}
 use lib.ListN.{length}
 use borrow.Author.Needs.{needs}
 use Rattle.headers.specs.Sheet.{mostLines}
-use Rattle.text.specs.Typed.{lineFields}
+use Rattle.text.specs.Typed.{lineFields, lineWidth, neededFields}
 use Rattle.text.proofs.LawLines.{LinesSoFar, lines-start, lines-length, lines-done, lines-many, lines-broken, lines-step}
 use Rattle.text.proofs.LawMade.{numbers-size}
 use Rattle.text.proofs.read.lay_lines.Statement.{statement}
 use Rattle.text.proofs.read.lay_lines.Tie as tie
 
 abbrev Inv-loop : tie.InvT-loop
-Inv-loop text at sheet₀ takes numbers₀ next₀ lines₀ sheet numbers next lines = (length numbers ≡ 13) × LinesSoFar text at sheet₀ sheet next lines
+Inv-loop text at sheet₀ takes numbers₀ next₀ lines₀ sheet numbers next lines = (length numbers ≡ lineWidth) × LinesSoFar text at sheet₀ sheet next lines
 
 abbrev μ-loop : tie.MeasureT-loop
 μ-loop text at sheet₀ takes numbers₀ next₀ lines₀ sheet numbers next lines = mostLines - lines
@@ -30,7 +30,7 @@ slice-aggregate-read-record-2 : tie.Need-slice-aggregate-read-record-2 Inv-loop 
 slice-aggregate-read-record-2 c = sym (c .before .before .before .before .loop .inv .0)
 
 read-record-requires : tie.Need-read-record-requires Inv-loop μ-loop
-read-record-requires c κs = record { same = c .before .before .before .before .loop .inv .0; some = omega arith }
+read-record-requires c κs = record { same = c .before .before .before .before .loop .inv .0; asked = omega arith }
 
 same-length-2 : tie.Need-same-length-2 Inv-loop μ-loop
 same-length-2 c = lines-length _ _ _ _ _ _ (c .before .before .before .before .before .before .before .before .loop .inv .1)
@@ -41,11 +41,11 @@ returns-2 c =
     (rw (c .enum-told .given .1) at (c .before .before .before .read-record .ensures))
 
 slice-aggregate-lay-line : tie.Need-slice-aggregate-lay-line Inv-loop μ-loop
-slice-aggregate-lay-line c = sym (numbers-size lineFields _ _ ((rw (c .before .before .before .after .given .1) at (c .before .before .before .before .before .before .read-record .ensures)) .0))
+slice-aggregate-lay-line c = sym (numbers-size neededFields lineFields _ _ ((rw (c .before .before .before .after .given .1) at (c .before .before .before .before .before .before .read-record .ensures)) .0))
 
 lay-line-requires : tie.Need-lay-line-requires Inv-loop μ-loop
 lay-line-requires c κs = (
-  numbers-size lineFields _ _ ((rw (c .before .before .before .after .given .1) at (c .before .before .before .before .before .before .read-record .ensures)) .0),
+  numbers-size neededFields lineFields _ _ ((rw (c .before .before .before .after .given .1) at (c .before .before .before .before .before .before .read-record .ensures)) .0),
   omega
       (arith, c .before .before .before .before .before .before .before .before .before .before .before .loop .inv .1 .few, c .before .before .before .before .before .before .before .before .before .if1 .left),
 )
@@ -64,7 +64,7 @@ loop-less c =
 loop-again : tie.Need-loop-again Inv-loop μ-loop
 loop-again c =
     let found = rw (c .before .before .before .before .before .before .after .given .1) at (c .before .before .before .before .before .before .before .before .before .read-record .ensures) in (
-      numbers-size lineFields _ _ (found .0),
+      numbers-size neededFields lineFields _ _ (found .0),
       lines-step _ _ _ _ _ _ (c .before .before .before .before .before .before .before .before .before .before .before .before .before .before .loop .inv .1)
           (c .before .before .before .before .before .before .before .before .before .before .before .before .before .loop-test .taken)
           (c .before .before .before .before .before .before .before .before .before .before .before .before .if1 .left) _ _ _ (found .0) (found .1) (c .before .before .lay-line .ensures),

@@ -12,7 +12,7 @@ returns : tie.Need-returns
 returns c = too-long (c .before .before .before .args .text .now) (c .if1 .taken)
 
 read-record-requires : tie.Need-read-record-requires
-read-record-requires c κs = record { same = refl; some = omega arith }
+read-record-requires c κs = record { same = refl; asked = omega arith }
 
 returns-2 : tie.Need-returns-2
 returns-2 c = no-header (c .before .before .before .before .before .before .before .before .before .args .text .now) (rw (c .enum-told .given .1) at (c .before .before .before .read-record .ensures))
@@ -36,7 +36,7 @@ lay-header-requires c κs =
     let found = rw (c .before .before .before .before .before .before .before .before .before .before .before .at .given .1) at
     (c .before .before .before .before .before .before .before .before .before .before .before .before .before .before .read-record .ensures) in
     let lines = rw (c .before .before .before .lines .given .1) at (c .before .before .before .before .before .before .before .lay-lines .ensures) in
-    (numbers-size headerFields _ _ (found .0), lines .few)
+    (numbers-size 3 headerFields _ _ (found .0), lines .few)
 
 returns-5 : tie.Need-returns-5
 returns-5 c =

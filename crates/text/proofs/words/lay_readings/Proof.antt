@@ -1,4 +1,4 @@
--- The readings and the zero bytes.
+-- The three readings.
 use borrow.Author.Needs.{needs}
 use Rattle.text.specs.Binary.{wordsOf, lineWords}
 use Rattle.text.specs.Inner.{readingBytes}
@@ -9,18 +9,16 @@ use Rattle.text.proofs.words.lay_readings.Tie as tie
 returns : tie.Need-returns
 unfolding readingBytes wordsOf lineWords
 returns c =
-    let reading-bits = c .before .before .before .before .before .before .before .before .before .before .before .before .before .before .before .before .before .reading-bits in
-    let eight-bytes = c .before .before .before .before .before .before .before .before .before .before .before .before .before .before .before .before .eight-bytes in
-    let reading-bits2 = c .before .before .before .before .before .before .before .before .before .before .before .before .reading-bits2 in
-    let eight-bytes2 = c .before .before .before .before .before .before .before .before .before .before .before .eight-bytes2 in
-    let reading-bits3 = c .before .before .before .before .before .before .before .reading-bits3 in
-    let eight-bytes3 = c .before .before .before .before .before .before .eight-bytes3 in
-    let eight-bytes4 = c .before .before .eight-bytes4 in
+    let reading-bits = c .before .before .before .before .before .before .before .before .before .before .before .before .before .reading-bits in
+    let eight-bytes = c .before .before .before .before .before .before .before .before .before .before .before .before .eight-bytes in
+    let reading-bits2 = c .before .before .before .before .before .before .before .before .reading-bits2 in
+    let eight-bytes2 = c .before .before .before .before .before .before .before .eight-bytes2 in
+    let reading-bits3 = c .before .before .before .reading-bits3 in
+    let eight-bytes3 = c .before .before .eight-bytes3 in
     then (from-place (rw (reading-bits .ensures) at (eight-bytes .ensures)))
     (then (from-place (rw (reading-bits2 .ensures) at (eight-bytes2 .ensures)))
     (then (from-place (rw (reading-bits3 .ensures) at (eight-bytes3 .ensures)))
-    (then (from-place (eight-bytes4 .ensures))
-    (nothing _ _))))
+    (nothing _ _)))
 
 pub lay-readings-spec : {M : Type 1} → statement M
 lay-readings-spec =
@@ -33,8 +31,6 @@ lay-readings-spec =
     (λ c κs. search needs)
     (λ c. search needs)
     (λ c κs. search needs)
-    (λ c κs. search needs)
-    (λ c. search needs)
     (λ c κs. search needs)
     (λ c. search needs)
     (λ c. search needs)

@@ -3,9 +3,10 @@
 use Prim.Native.Nat.{ℕ, _+_, _*_, _<_}
 use mathlib.Core.Path.{_≡_, refl, sym, ap, _∙_}
 use mathlib.Core.Bool.{true, false, cond}
-use mathlib.Core.List.{List}
+use mathlib.Core.List.{List, [], _∷_, _++_}
 use native.Mathlib.Omega.{arith}
 use lib.Dec.{ltb}
+use lib.ListN.{replicate}
 use Rattle.search.specs.First.{first}
 use Rattle.search.specs.declared.found.Found.{Found}
 use Rattle.search.specs.declared.found.Found.the-variants.{At, Nothing}
@@ -20,7 +21,12 @@ use Rattle.fugitive.specs.declared.grades.Grades.{Grades}
 use Rattle.fugitive.proofs.LawShutOut.{graded-elsewhere}
 use Rattle.desk.specs.Lent.{Sources, sources, Lent}
 use Rattle.desk.specs.Book.{bookOk}
-use Rattle.desk.specs.Entries.{fugitiveOk}
+use Rattle.headers.specs.House.{fileOk}
+use Rattle.little.specs.Read.{u16At, u32At}
+use Rattle.search.specs.Test.{all, every}
+use Rattle.fugitive.specs.Table.{fugitiveHeaderOk}
+use Rattle.desk.specs.Key.{keyFrom, keyLess}
+use Rattle.desk.specs.Entries.{entryKey, entryRises, fugitiveOk}
 use Rattle.desk.specs.Row.{rowOf}
 use Rattle.desk.specs.Line.{mostKilograms}
 use Rattle.desk.specs.Cells.{width}
@@ -151,3 +157,15 @@ module _ (from : Sources) where
           → accountOf from line ≡ Refusal NoFugitiveEntry
       unfolding accountOf
       entry-before-technique row hit none = rw (moderate, reuse, taken, hit, none)
+
+-- ---- entries rise
+
+-- a table of two entries, all zeros but for the low byte of the second one's scale
+abbrev twoEntries : (scale : ℕ) → List ℕ
+twoEntries scale =
+    (68 ∷ 0 ∷ 0 ∷ 0 ∷ 2 ∷ 0 ∷ 0 ∷ 0 ∷ 12 ∷ 0 ∷ 0 ∷ 0 ∷ []) ++ (replicate 36 0 ++ (scale ∷ replicate 19 0))
+
+-- one that takes the same entry twice: two entries may differ in the last of their codes, and must
+pub equal-entries : (fugitiveOk (twoEntries 0) ≡ false) × (fugitiveOk (twoEntries 1) ≡ true)
+unfolding fugitiveOk fugitiveHeaderOk fileOk every all entryRises entryKey keyFrom keyLess u16At u32At
+equal-entries = (refl, refl)

@@ -10,6 +10,7 @@ use native.Mathlib.Omega.{arith}
 use lib.ListN.{length}
 use borrow.Author.Tests.{le-leb}
 use Rattle.search.proofs.LawTest.{either-way}
+use Rattle.little.specs.Read.{AreBytes}
 use Rattle.settle.specs.Shown.{at as cell}
 use Rattle.headers.specs.Sheet.{lineCount}
 use Rattle.answers.specs.Bundle.{bundleNumber}
@@ -18,7 +19,7 @@ use Rattle.answers.specs.declared.bundle.BundleOutcome.the-variants.{Taken, Bun
 use Rattle.bundle.specs.Bundle.{mostSheets, sheetCount, cellsPerSheet, sheetOf}
 use Rattle.bundle.specs.Whole.{roomy, bundleOutcome}
 use Rattle.bundle.proofs.LawBundle.{exact-room, shown-room, run-inside}
-use Rattle.desk.specs.Lent.{Lent, lent}
+use Rattle.desk.specs.Lent.{Sources, Lent, lent}
 use Rattle.desk.specs.Cells.{tableSize}
 use Rattle.desk.specs.Sheet.{sheetOk}
 use Rattle.desk.specs.Table.{bySheet, byFiles, answerOf}
@@ -51,8 +52,9 @@ module _ (bundle : List ℕ) (after : Results) where
 
 -- ---- what the desk left
 
-module _ (book bundle : List ℕ) (before after : Results) (room : roomy bundle (length (before .exact)) (length (before .shown)) (length (before .outcomes)) ≡ true) where
-  module _ (i : ℕ) (h : i < sheetCount bundle) (alone : AsAlone book bundle before after i) where
+module _ (from : Sources) (bundle : List ℕ) (before after : Results)
+    (room : roomy bundle (length (before .exact)) (length (before .shown)) (length (before .outcomes)) ≡ true) where
+  module _ (i : ℕ) (h : i < sheetCount bundle) (alone : AsAlone from bundle before after i) where
     runs-room : min (length (runOf bundle i (before .exact))) (length (runOf bundle i (before .shown))) ≡ cellsPerSheet bundle
     runs-room =
         let c = cellsPerSheet bundle in
@@ -61,21 +63,22 @@ module _ (book bundle : List ℕ) (before after : Results) (room : roomy bundle 
         let s = run-size (i * c) c (before .shown) (omega (arith, inside, shown-room bundle _ _ _ room)) in
         omega (arith, e, s)
 
-    sheet-told : answerText (cell (after .outcomes) i) (sheetOf bundle i) (runOf bundle i (after .exact)) (runOf bundle i (after .shown))
-        ≡ sheetReport book bundle i
-    sheet-told =
-        let answer : alone .answer ≡ answerOf (lent book (sheetOf bundle i)) (cellsPerSheet bundle) = rw runs-room at (alone .declared .demand1 .answer) in
-        rw (outcome-cell book bundle before after i alone, ← answer) (told-is _ _ _ _ _ _ (alone .declared))
+    sheet-told : AreBytes (from .fugitive)
+        → answerText (cell (after .outcomes) i) (sheetOf bundle i) (runOf bundle i (after .exact)) (runOf bundle i (after .shown))
+        ≡ sheetReport from bundle i
+    sheet-told bytes =
+        let answer : alone .answer ≡ answerOf (lent from (sheetOf bundle i)) (cellsPerSheet bundle) = rw runs-room at (alone .declared .demand1 .answer) in
+        rw (outcome-cell from bundle before after i alone, ← answer) (told-is _ _ _ _ _ _ (alone .declared) bytes)
 
-  sheets-told : (n : ℕ) → n ≤ sheetCount bundle → ((i : ℕ) → i < n → AsAlone book bundle before after i)
-      → sheetTexts bundle after n ≡ sheetsText book bundle n
+  sheets-told : AreBytes (from .fugitive) → (n : ℕ) → n ≤ sheetCount bundle → ((i : ℕ) → i < n → AsAlone from bundle before after i)
+      → sheetTexts bundle after n ≡ sheetsText from bundle n
   unfolding sheetTexts sheetsText
-  sheets-told zero h alone = refl
-  sheets-told (suc n) h alone =
-      rw (sheets-told n (omega arith) (λ i l. alone i (omega arith)), sheet-told n h (alone n (omega arith))) refl
+  sheets-told bytes zero h alone = refl
+  sheets-told bytes (suc n) h alone =
+      rw (sheets-told bytes n (omega arith) (λ i l. alone i (omega arith)), sheet-told n h (alone n (omega arith)) bytes) refl
 
   -- what telling them asks
-  pub tellable : SheetBySheet book bundle before after → sheetCount bundle ≤ mostSheets → length (after .exact) ≡ length (before .exact)
+  pub tellable : SheetBySheet from bundle before after → sheetCount bundle ≤ mostSheets → length (after .exact) ≡ length (before .exact)
       → length (after .shown) ≡ length (before .shown) → length (after .outcomes) ≡ length (before .outcomes) → SheetsTellable bundle after
   tellable done few exact-size shown-size outcomes-size =
       record {
@@ -83,11 +86,12 @@ module _ (book bundle : List ℕ) (before after : Results) (room : roomy bundle 
         room = rw (exact-size, shown-size, outcomes-size) room;
         lines = λ i h z.
             let alone = done .sheets i h in
-            told-few _ _ _ _ _ _ (alone .declared) (sym (outcome-cell book bundle before after i alone) ∙ z);
+            told-few _ _ _ _ _ _ (alone .declared) (sym (outcome-cell from bundle before after i alone) ∙ z);
       }
 
-  pub taken-told : SheetBySheet book bundle before after → sheetTexts bundle after (sheetCount bundle) ≡ sheetsText book bundle (sheetCount bundle)
-  taken-told done = sheets-told (sheetCount bundle) (omega arith) (done .sheets)
+  pub taken-told : AreBytes (from .fugitive) → SheetBySheet from bundle before after
+      → sheetTexts bundle after (sheetCount bundle) ≡ sheetsText from bundle (sheetCount bundle)
+  taken-told bytes done = sheets-told bytes (sheetCount bundle) (omega arith) (done .sheets)
 
 -- ---- a run with room for the sheet's tables, or a sheet that is malformed
 
@@ -104,22 +108,24 @@ module _ (f : Lent) (room : ℕ) (fits : sheetOk (f .sheet) ≡ true → tableSi
   unfolding answerOf byFiles
   same-answer = rw sheet-same refl
 
-pub as-printed-alone : (book bundle : List ℕ) (i : ℕ)
+pub as-printed-alone : (from : Sources) (bundle : List ℕ) (i : ℕ)
     → (sheetOk (sheetOf bundle i) ≡ true → tableSize (lineCount (sheetOf bundle i)) ≤ cellsPerSheet bundle)
-    → sheetReport book bundle i ≡ reportOf (lent book (sheetOf bundle i))
+    → sheetReport from bundle i ≡ reportOf (lent from (sheetOf bundle i))
 unfolding reportOf
-as-printed-alone book bundle i fits = rw (same-answer (lent book (sheetOf bundle i)) (cellsPerSheet bundle) fits) refl
+as-printed-alone from bundle i fits = rw (same-answer (lent from (sheetOf bundle i)) (cellsPerSheet bundle) fits) refl
 
 -- ---- the whole
 
-pub whole-taken : (book bundle : List ℕ) {r : ℕ} {text text' : List ℕ} → bundleOutcome bundle roomLent roomLent mostSheets ≡ Taken
-    → Puts (sheetsText book bundle (sheetCount bundle)) mostBundleText 0 text r text' → Puts (bundleReportOf book bundle) mostBundleText 0 text r text'
+pub whole-taken : (from : Sources) (bundle : List ℕ) {r : ℕ} {text text' : List ℕ}
+    → bundleOutcome bundle roomLent roomLent mostSheets ≡ Taken
+    → Puts (sheetsText from bundle (sheetCount bundle)) mostBundleText 0 text r text' → Puts (bundleReportOf from bundle) mostBundleText 0 text r text'
 unfolding bundleReportOf bundleReportFor
-whole-taken book bundle e p = rw e p
+whole-taken from bundle e p = rw e p
 
-pub whole-refused : (book bundle : List ℕ) (o : BundleOutcome) {r : ℕ} {text text' : List ℕ} → o ≡ bundleOutcome bundle roomLent roomLent mostSheets
-    → o ≢ Taken → Puts (refusalText (bundleNumber o) 0) mostRefusal 0 text r text' → Puts (bundleReportOf book bundle) mostBundleText 0 text r text'
+pub whole-refused : (from : Sources) (bundle : List ℕ) (o : BundleOutcome) {r : ℕ} {text text' : List ℕ}
+    → o ≡ bundleOutcome bundle roomLent roomLent mostSheets
+    → o ≢ Taken → Puts (refusalText (bundleNumber o) 0) mostRefusal 0 text r text' → Puts (bundleReportOf from bundle) mostBundleText 0 text r text'
 unfolding bundleReportOf bundleReportFor
-whole-refused book bundle Taken e refused p = absurd (refused refl)
-whole-refused book bundle BundleMalformed e refused p = rw (← e) (more p (omega arith))
-whole-refused book bundle ResultTooShort e refused p = rw (← e) (more p (omega arith))
+whole-refused from bundle Taken e refused p = absurd (refused refl)
+whole-refused from bundle BundleMalformed e refused p = rw (← e) (more p (omega arith))
+whole-refused from bundle ResultTooShort e refused p = rw (← e) (more p (omega arith))

@@ -10,10 +10,11 @@ use lib.ListN.{length, take, drop}
 use lib.Seq.{take-at}
 use borrow.Author.Tests.{ne-eqb}
 use Rattle.search.proofs.LawTest.{clash}
+use Rattle.little.specs.Read.{AreBytes}
 use Rattle.settle.proofs.LawShown.{shown-length}
 use Rattle.answers.proofs.LawCode.{code-zero, code-number, code-line}
 use Rattle.answers.specs.Answer.{numberUnit, codeOf}
-use Rattle.answers.specs.declared.answer.FileFault.the-variants.{BookMalformed, SheetMalformed, TextMalformed, ResultTooShort}
+use Rattle.answers.specs.declared.answer.FileFault.the-variants.{BookMalformed, FugitiveMalformed, SheetMalformed, TextMalformed, ResultTooShort}
 use Rattle.answers.specs.declared.answer.LineFault.{LineFault}
 use Rattle.answers.specs.declared.answer.Outcome.{Outcome}
 use Rattle.answers.specs.declared.answer.Outcome.the-variants.{Accepted, RefusedFile, RefusedLine}
@@ -42,11 +43,11 @@ module _ (f : Lent) (exact shown : List ℕ) (answer : Outcome) (exact' shown' :
     first-exact : take (tableSize (lineCount (f .sheet))) exact' ≡ exactOf f
     first-exact = first-cells (lineCount (f .sheet)) (lineOutcome f) exact exact' (rw ok at (d .tables .table))
 
-    first-shown : take (tableSize (lineCount (f .sheet))) shown' ≡ shownOf f
+    first-shown : AreBytes (f .sources .fugitive) → take (tableSize (lineCount (f .sheet))) shown' ≡ shownOf f
     unfolding shownAfter
-    first-shown =
+    first-shown bytes =
         let n = lineCount (f .sheet) in
-        let size = shown-length (settles f (is-ready ok .book) (is-ready ok .sheet)) in
+        let size = shown-length (settles f (is-ready ok .sources .book) bytes (is-ready ok .sheet)) in
         let shows = rw ok at (d .tables .shows) in
         ap (take (tableSize n)) shows ∙ take-at (shownOf f) (drop (tableSize n) shown) (tableSize n) (omega (arith, size))
 
@@ -60,13 +61,14 @@ module _ (f : Lent) (exact shown : List ℕ) (answer : Outcome) (exact' shown' :
         ne-eqb (codeOf (RefusedLine k line)) 0
         (λ (z : codeOf (RefusedLine k line) ≡ 0). let same = code-zero (RefusedLine k line) z in clash (cc))
 
-  pub told-is : answerText (codeOf answer) (f .sheet) exact' shown' ≡ reportFor answer f
+  pub told-is : AreBytes (f .sources .fugitive) → answerText (codeOf answer) (f .sheet) exact' shown' ≡ reportFor answer f
   unfolding answerText reportFor
-  told-is = go answer refl
+  told-is bytes = go answer refl
     where
       go : (o : Outcome) → answer ≡ o → answerText (codeOf o) (f .sheet) exact' shown' ≡ reportFor o f
-      go Accepted e = rw (first-exact e, first-shown e) refl
+      go Accepted e = rw (first-exact e, first-shown e bytes) refl
       go (RefusedFile BookMalformed) e = refl
+      go (RefusedFile FugitiveMalformed) e = refl
       go (RefusedFile SheetMalformed) e = refl
       go (RefusedFile TextMalformed) e = refl
       go (RefusedFile ResultTooShort) e = refl

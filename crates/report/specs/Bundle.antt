@@ -8,7 +8,7 @@ use Rattle.answers.specs.declared.bundle.BundleOutcome.{BundleOutcome}
 use Rattle.answers.specs.declared.bundle.BundleOutcome.the-variants.{Taken, BundleMalformed, ResultTooShort}
 use Rattle.bundle.specs.Bundle.{mostSheets, sheetCount, cellsPerSheet, sheetOf}
 use Rattle.bundle.specs.Whole.{bundleOutcome}
-use Rattle.desk.specs.Lent.{lent}
+use Rattle.desk.specs.Lent.{Sources, lent}
 use Rattle.desk.specs.Table.{answerOf}
 use Rattle.report.specs.declared.Written.{Written}
 use Rattle.report.specs.Report.{lineEnd, numberText, refusalText, mostCells, reportFor, mostNumber, mostText, Wrote}
@@ -22,27 +22,27 @@ unfoldable pub sheetLine : (i : ℕ) → List ℕ
 sheetLine i = sheetWord ++ numberText (i + 1) ++ lineEnd
 
 -- what is printed for sheet i alone, with room in both results for the cells of its run
-abbrev pub sheetReport : (book bundle : List ℕ) (i : ℕ) → List ℕ
-sheetReport book bundle i =
-    reportFor (answerOf (lent book (sheetOf bundle i)) (cellsPerSheet bundle)) (lent book (sheetOf bundle i))
+abbrev pub sheetReport : (from : Sources) (bundle : List ℕ) (i : ℕ) → List ℕ
+sheetReport from bundle i =
+    reportFor (answerOf (lent from (sheetOf bundle i)) (cellsPerSheet bundle)) (lent from (sheetOf bundle i))
 
 -- the first n sheets
-unfoldable pub sheetsText : (book bundle : List ℕ) (n : ℕ) → List ℕ
-sheetsText book bundle zero = []
-sheetsText book bundle (suc i) = sheetsText book bundle i ++ (sheetLine i ++ sheetReport book bundle i)
+unfoldable pub sheetsText : (from : Sources) (bundle : List ℕ) (n : ℕ) → List ℕ
+sheetsText from bundle zero = []
+sheetsText from bundle (suc i) = sheetsText from bundle i ++ (sheetLine i ++ sheetReport from bundle i)
 
 -- room for so many sheets of all lines
 abbrev pub roomLent : ℕ
 roomLent = mostSheets * mostCells
 
 -- the report where the whole is answered so
-unfoldable pub bundleReportFor : (answer : BundleOutcome) (book bundle : List ℕ) → List ℕ
-bundleReportFor Taken book bundle = sheetsText book bundle (sheetCount bundle)
-bundleReportFor BundleMalformed book bundle = refusalText (bundleNumber BundleMalformed) 0
-bundleReportFor ResultTooShort book bundle = refusalText (bundleNumber ResultTooShort) 0
+unfoldable pub bundleReportFor : (answer : BundleOutcome) (from : Sources) (bundle : List ℕ) → List ℕ
+bundleReportFor Taken from bundle = sheetsText from bundle (sheetCount bundle)
+bundleReportFor BundleMalformed from bundle = refusalText (bundleNumber BundleMalformed) 0
+bundleReportFor ResultTooShort from bundle = refusalText (bundleNumber ResultTooShort) 0
 
-unfoldable pub bundleReportOf : (book bundle : List ℕ) → List ℕ
-bundleReportOf book bundle = bundleReportFor (bundleOutcome bundle roomLent roomLent mostSheets) book bundle
+unfoldable pub bundleReportOf : (from : Sources) (bundle : List ℕ) → List ℕ
+bundleReportOf from bundle = bundleReportFor (bundleOutcome bundle roomLent roomLent mostSheets) from bundle
 
 -- bytes of a sheet's line, and of that and its report, at most
 abbrev pub mostSheetLine : ℕ
@@ -54,6 +54,6 @@ mostSheetText = mostSheetLine + mostText
 abbrev pub mostBundleText : ℕ
 mostBundleText = mostSheets * mostSheetText
 
--- the whole promise for a book, a bundle and a lent text
-abbrev pub ReportedBundle : (book bundle text : List ℕ) (r : Written) (text' : List ℕ) → Type 0
-ReportedBundle book bundle text r text' = Wrote (bundleReportOf book bundle) mostBundleText text r text'
+-- the whole promise for the sources, a bundle and a lent text
+abbrev pub ReportedBundle : (from : Sources) (bundle text : List ℕ) (r : Written) (text' : List ℕ) → Type 0
+ReportedBundle from bundle text r text' = Wrote (bundleReportOf from bundle) mostBundleText text r text'

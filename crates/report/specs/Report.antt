@@ -1,5 +1,5 @@
 -- "The program prints": the report of a sheet, byte for byte, in ASCII. The exact rows come first, then `unit` with W, then the shown
--- rows. After `exact` or `shown`: the line's number or `total`, then G, R, U, D. A refusal is only `refused N line L`.
+-- rows. After `exact` or `shown`: the line's number or `total`, then G, R, U, D, F. A refusal is only `refused N line L`.
 use Prim.Native.Nat.{ℕ, zero, suc, _+_, _*_, _≤_}
 use mathlib.Core.Path.{_≡_}
 use mathlib.Core.Bool.{cond}
@@ -59,13 +59,14 @@ numberText n = space ++ numeral n
 
 -- ---- rows and tables
 
--- G, R, U, D of row i, counted from 0
+-- G, R, U, D, F of row i, counted from 0
 unfoldable pub amountsText : (cells : List ℕ) (i : ℕ) → List ℕ
 amountsText cells i =
     numberText (cellAt cells i 0)
     ++ numberText (cellAt cells i 1)
     ++ numberText (cellAt cells i 2)
     ++ numberText (cellAt cells i 3)
+    ++ numberText (cellAt cells i 4)
     ++ lineEnd
 
 -- row i of a table with that name
@@ -121,7 +122,7 @@ reportOf f = reportFor (answerOf f mostCells) f
 abbrev pub mostNumber : ℕ
 mostNumber = length space + mostDigits
 
--- of G, R, U, D and the line end
+-- of G, R, U, D, F and the line end
 abbrev pub mostAmounts : ℕ
 mostAmounts = width * mostNumber + length lineEnd
 
@@ -152,6 +153,6 @@ pub record Wrote (report : List ℕ) (most : ℕ) (text : List ℕ) (r : Written
   pub answer : r ≡ writtenOf (length report) (length text)
   pub holds : text' ≡ textAfter r report text
 
--- the whole promise for a book, a sheet and a lent text
+-- the whole promise for the sources, a sheet and a lent text
 abbrev pub Reported : (f : Lent) (text : List ℕ) (r : Written) (text' : List ℕ) → Type 0
 Reported f text r text' = Wrote (reportOf f) mostText text r text'

@@ -5,7 +5,7 @@ mod rows;
 mod sheets;
 mod told;
 
-ghost use Rattle.desk.specs.Lent.{lent};
+ghost use Rattle.desk.specs.Lent.{sources, lent};
 ghost use Rattle.report.specs.Report.{Reported};
 ghost use Rattle.report.specs.Bundle.{ReportedBundle};
 ghost use Rattle.report.specs.Typed.{ReportedText, ReportedRefusal};
@@ -48,28 +48,32 @@ fn finished(text: &mut [u8], end: usize) -> Written
     }
 }
 
-// The report for a book and a sheet of any content, at the start of a text of any size. The bytes past the report keep their values.
-// Where the text has no room for all of the report every byte of it is zero; one of `MOST_TEXT` bytes always has room.
-pub fn report(book: &[u8], sheet: &[u8], text: &mut [u8]) -> Written
-    ensures { λ r. ⌜ Reported (lent (now (book .entry)) (now (sheet .entry))) (now (text .entry)) r (now (text .exit)) ⌝ }
+// The report for a book, a fugitive table and a sheet of any content, at the start of a text of any size. The bytes past the report keep
+// their values. Where the text has no room for all of the report every byte of it is zero; one of `MOST_TEXT` bytes always has room.
+pub fn report(book: &[u8], fugitive: &[u8], sheet: &[u8], text: &mut [u8]) -> Written
+    ensures { λ r. ⌜ Reported (lent (sources (now (book .entry)) (now (fugitive .entry))) (now (sheet .entry)))
+        (now (text .entry)) r (now (text .exit)) ⌝ }
 {
-    let end = told(book, sheet, text);
+    let end = told(book, fugitive, sheet, text);
     finished(text, end)
 }
 
-// The report for a book and a bundle of any content, likewise; a text of `MOST_BUNDLE_TEXT` bytes always has room.
-pub fn report_bundle(book: &[u8], bundle: &[u8], text: &mut [u8]) -> Written
-    ensures { λ r. ⌜ ReportedBundle (now (book .entry)) (now (bundle .entry)) (now (text .entry)) r (now (text .exit)) ⌝ }
+// The report for a book, a fugitive table and a bundle of any content, likewise; a text of `MOST_BUNDLE_TEXT` bytes always has room.
+pub fn report_bundle(book: &[u8], fugitive: &[u8], bundle: &[u8], text: &mut [u8]) -> Written
+    ensures { λ r. ⌜ ReportedBundle (sources (now (book .entry)) (now (fugitive .entry))) (now (bundle .entry))
+        (now (text .entry)) r (now (text .exit)) ⌝ }
 {
-    let end = told_bundle(book, bundle, text);
+    let end = told_bundle(book, fugitive, bundle, text);
     finished(text, end)
 }
 
-// The report for a book and a sheet that was typed, of any content, likewise; a text of `MOST_TEXT` bytes always has room.
-pub fn report_text(book: &[u8], typed: &[u8], text: &mut [u8]) -> Written
-    ensures { λ r. ⌜ ReportedText (now (book .entry)) (now (typed .entry)) (now (text .entry)) r (now (text .exit)) ⌝ }
+// The report for a book, a fugitive table and a sheet that was typed, of any content, likewise; a text of `MOST_TEXT` bytes always has
+// room.
+pub fn report_text(book: &[u8], fugitive: &[u8], typed: &[u8], text: &mut [u8]) -> Written
+    ensures { λ r. ⌜ ReportedText (sources (now (book .entry)) (now (fugitive .entry))) (now (typed .entry))
+        (now (text .entry)) r (now (text .exit)) ⌝ }
 {
-    let end = told_text(book, typed, text);
+    let end = told_text(book, fugitive, typed, text);
     finished(text, end)
 }
 

@@ -26,7 +26,7 @@ fn cell(cells: &[u64], i: usize, j: usize) -> u64
     if at < cells.len() { cells[at] } else { 0 }
 }
 
-// G, R, U, D of row i, and the line end.
+// G, R, U, D, F of row i, and the line end.
 fn amounts(text: &mut [u8], at: usize, cells: &[u64], i: usize) -> usize
     requires { ⌜ (i < counted) × (at + mostAmounts ≤ reach) ⌝ }
     ensures { λ r. ⌜ Puts (amountsText (now (cells .entry)) i) mostAmounts at (now (text .entry)) r (now (text .exit)) ⌝ }
@@ -35,7 +35,8 @@ fn amounts(text: &mut [u8], at: usize, cells: &[u64], i: usize) -> usize
     let removed = number(text, generated, cell(cells, i, 1));
     let reused = number(text, removed, cell(cells, i, 2));
     let discharged = number(text, reused, cell(cells, i, 3));
-    put(text, discharged, b"\n")
+    let fugitive = number(text, discharged, cell(cells, i, 4));
+    put(text, fugitive, b"\n")
 }
 
 // The row of line i; lines count from 1.

@@ -4,6 +4,7 @@ ghost use Prim.Native.Nat.{_+_, _*_, _≤_, _<_};
 ghost use lib.ListN.{length};
 ghost use Rattle.little.specs.Part.{partOf};
 ghost use Rattle.bundle.specs.Bundle.{sheetCount};
+ghost use Rattle.desk.specs.Lent.{sources};
 ghost use Rattle.desk.specs.Works.{results};
 ghost use Rattle.report.specs.Bundle.{sheetLine, mostSheetLine, mostSheetText, mostBundleText, bundleReportOf};
 ghost use Rattle.report.specs.Inner.{counted, sheetText, sheetTexts, SheetsTellable, SheetTellable};
@@ -92,14 +93,21 @@ fn tell_sheets(
 }
 
 // The desk is lent room for as many sheets as a bundle may have, each of all lines.
-pub(crate) fn told_bundle(book: &[u8], bundle: &[u8], text: &mut [u8]) -> usize
-    ensures { λ r. ⌜ Puts (bundleReportOf (now (book .entry)) (now (bundle .entry))) mostBundleText
+pub(crate) fn told_bundle(book: &[u8], fugitive: &[u8], bundle: &[u8], text: &mut [u8]) -> usize
+    ensures { λ r. ⌜ Puts (bundleReportOf (sources (now (book .entry)) (now (fugitive .entry))) (now (bundle .entry))) mostBundleText
         0 (now (text .entry)) r (now (text .exit)) ⌝ }
 {
     let mut exact = [0u64; ROOM];
     let mut shown = [0u64; ROOM];
     let mut outcomes = [0u64; MOST_SHEETS];
-    let whole = declare_bundle(book, bundle, &mut exact, &mut shown, &mut outcomes);
+    let whole = declare_bundle(
+        book,
+        fugitive,
+        bundle,
+        &mut exact,
+        &mut shown,
+        &mut outcomes,
+    );
     if let BundleOutcome::Taken = whole {
         return tell_sheets(text, bundle, &exact, &shown, &outcomes);
     }

@@ -2,7 +2,7 @@
 ghost use mathlib.Core.Path.{_≡_};
 ghost use Prim.Native.Nat.{_+_, _≤_};
 ghost use lib.ListN.{take};
-ghost use Rattle.desk.specs.Lent.{lent};
+ghost use Rattle.desk.specs.Lent.{sources, lent};
 ghost use Rattle.headers.specs.Sheet.{mostLines};
 ghost use Rattle.report.specs.Report.{mostUnit, mostText, unitText, figuresText, refusalText, reportOf};
 ghost use Rattle.report.specs.Typed.{refusedText, textReportOf};
@@ -20,7 +20,7 @@ use headers::sheet::line_count;
 use headers::unit::unit_of;
 use little::part::part;
 use text::convert::Converted;
-use text::declare::book_first;
+use text::declare::sources_first;
 use text::read::MOST_SHEET;
 use text::read::sheet_from_text;
 
@@ -107,24 +107,24 @@ pub(crate) fn tell_refusal(refused: Outcome, text: &mut [u8]) -> usize
 }
 
 // The desk is lent results with room for every sheet.
-pub(crate) fn told(book: &[u8], sheet: &[u8], text: &mut [u8]) -> usize
-    ensures { λ r. ⌜ Puts (reportOf (lent (now (book .entry)) (now (sheet .entry)))) mostText
+pub(crate) fn told(book: &[u8], fugitive: &[u8], sheet: &[u8], text: &mut [u8]) -> usize
+    ensures { λ r. ⌜ Puts (reportOf (lent (sources (now (book .entry)) (now (fugitive .entry))) (now (sheet .entry)))) mostText
         0 (now (text .entry)) r (now (text .exit)) ⌝ }
 {
     let mut exact = [0u64; MOST_CELLS];
     let mut shown = [0u64; MOST_CELLS];
-    let outcome = declare(book, sheet, &mut exact, &mut shown);
+    let outcome = declare(book, fugitive, sheet, &mut exact, &mut shown);
     tell(text, 0, sheet, outcome.code(), &exact, &shown)
 }
 
 // A sheet that was typed is read into bytes that have room for every one.
-pub(crate) fn told_text(book: &[u8], typed: &[u8], text: &mut [u8]) -> usize
-    ensures { λ r. ⌜ Puts (textReportOf (now (book .entry)) (now (typed .entry))) mostText
+pub(crate) fn told_text(book: &[u8], fugitive: &[u8], typed: &[u8], text: &mut [u8]) -> usize
+    ensures { λ r. ⌜ Puts (textReportOf (sources (now (book .entry)) (now (fugitive .entry))) (now (typed .entry))) mostText
         0 (now (text .entry)) r (now (text .exit)) ⌝ }
 {
     let mut sheet = [0u8; MOST_SHEET];
     match sheet_from_text(typed, &mut sheet) {
-        Converted::Bytes(bytes) => told(book, part(&sheet, 0, bytes), text),
-        Converted::Refused(refused) => tell_refusal(book_first(book, refused), text),
+        Converted::Bytes(bytes) => told(book, fugitive, part(&sheet, 0, bytes), text),
+        Converted::Refused(refused) => tell_refusal(sources_first(book, fugitive, refused), text),
     }
 }

@@ -16,8 +16,8 @@ returns-2 : tie.Need-returns-2
 unfolding textReportOf
 returns-2 c =
     let refusal = refused-is _ _ _ _ (c .before .before .before .before .before .before .before .before .before .sheet-from-text .ensures)
-    (λ s. made-size (c .before .before .before .before .before .before .before .before .before .before .before .before .before .before .args .typed .now) s) _ (c .before .before .before .before .before .before .refused .given .1) in
-    rw refusal (rw (c .before .before .before .before .book-first .ensures) at (c .before .before .tell-refusal .ensures))
+    (λ s. made-size (c .before .before .before .before .before .before .before .before .before .before .before .before .before .before .before .args .typed .now) s) _ (c .before .before .before .before .before .before .refused .given .1) in
+    rw refusal (rw (c .before .before .before .before .sources-first .ensures) at (c .before .before .tell-refusal .ensures))
 
 pub told-text-spec : {M : Type 1} → statement M
 told-text-spec = tie.close

@@ -8,6 +8,7 @@ use Rattle.answers.specs.Answer.{numberUnit}
 use Rattle.answers.specs.Bundle.{bundleNumber, bundleCode}
 use Rattle.answers.specs.declared.bundle.BundleOutcome.{BundleOutcome}
 use Rattle.answers.specs.declared.bundle.BundleOutcome.the-variants.{Taken, BundleMalformed, ResultTooShort}
+use Rattle.desk.specs.Lent.{Sources}
 use Rattle.desk.specs.Works.{Results}
 use Rattle.desk.proofs.LawOnce.{bundle-declared-once}
 use Rattle.checkraven_c.specs.BundleCode.{answeredBundle, AccountsBundle}
@@ -17,7 +18,7 @@ only-taken Taken e = refl
 only-taken BundleMalformed e = absurd (omega (arith, e))
 only-taken ResultTooShort e = absurd (omega (arith, e))
 
-module _ (book bundle : List ℕ) (before : Results) (r : ℕ) (after : Results) (p : AccountsBundle book bundle before r after) where
+module _ (from : Sources) (bundle : List ℕ) (before : Results) (r : ℕ) (after : Results) (p : AccountsBundle from bundle before r after) where
   -- 0 exactly where the bundle is taken
   pub zero-taken : r ≡ 0 → answeredBundle bundle before ≡ Taken
   zero-taken z = only-taken (answeredBundle bundle before) (sym (p .answer) ∙ z)
@@ -32,7 +33,7 @@ module _ (book bundle : List ℕ) (before : Results) (r : ℕ) (after : Results)
   pub bundle-line-is : r % numberUnit ≡ 0
   bundle-line-is = omega (arith, p .answer)
 
-pub accounts-bundle-once : (book bundle : List ℕ) (before : Results) (r q : ℕ) (x y : Results) → AccountsBundle book bundle before r x
-    → AccountsBundle book bundle before q y → (r ≡ q) × (x ≡ y)
-accounts-bundle-once book bundle before r q x y p h =
-    (p .answer ∙ sym (h .answer), bundle-declared-once book bundle before x y _ _ (p .declared) (h .declared) .1)
+pub accounts-bundle-once : (from : Sources) (bundle : List ℕ) (before : Results) (r q : ℕ) (x y : Results) → AccountsBundle from bundle before r x
+    → AccountsBundle from bundle before q y → (r ≡ q) × (x ≡ y)
+accounts-bundle-once from bundle before r q x y p h =
+    (p .answer ∙ sym (h .answer), bundle-declared-once from bundle before x y _ _ (p .declared) (h .declared) .1)

@@ -9,8 +9,10 @@ use Rattle.answers.specs.Answer.{answerNumber, answerLine, numberUnit, codeOf}
 use Rattle.answers.specs.declared.answer.Outcome.{Outcome}
 use Rattle.answers.specs.declared.answer.Outcome.the-variants.{Accepted}
 use Rattle.answers.proofs.LawCode.{code-zero, code-number, code-line}
-use Rattle.desk.specs.Lent.{lent}
+use Rattle.desk.specs.Lent.{Sources, lent}
 use Rattle.desk.specs.Book.{bookOk}
+use Rattle.desk.specs.Entries.{fugitiveOk}
+use Rattle.desk.specs.Table.{bySources}
 use Rattle.desk.proofs.LawDemands.{answer-line-small}
 use Rattle.text.specs.Convert.{Made, Gives, Refuses, byRoom}
 use Rattle.text.specs.Read.{sheetOfText}
@@ -41,16 +43,20 @@ module _ (made : Made) (bytes : List ℕ) (r : ℕ) (bytes' : List ℕ) (p : Con
   converts-line = rw (p .answer, refused) (code-line o small)
 
 -- a line is small: 0 where there is no sheet, else as the desk has it
-text-line-small : (book text : List ℕ) (room : ℕ) → answerLine (textAnswer book text room) < numberUnit
-text-line-small book text room = go (sheetOfText text) refl
+text-line-small : (from : Sources) (text : List ℕ) (room : ℕ) → answerLine (textAnswer from text room) < numberUnit
+unfolding bySources
+text-line-small from text room = go (sheetOfText text) refl
   where
-    go : (made : Made) → sheetOfText text ≡ made → answerLine (answerBy book made room) < numberUnit
-    go (Gives s) e = omega (arith, answer-line-small (lent book s) room)
-    go (Refuses o) e = either-way (bookOk book) (λ q. rw (q, made-refused text o e) (omega arith)) (λ q. rw q (omega arith))
+    go : (made : Made) → sheetOfText text ≡ made → answerLine (answerBy from made room) < numberUnit
+    go (Gives s) e = omega (arith, answer-line-small (lent from s) room)
+    go (Refuses o) e =
+        either-way (bookOk (from .book))
+        (λ p. either-way (fugitiveOk (from .fugitive)) (λ q. rw (p, q, made-refused text o e) (omega arith)) (λ q. rw (p, q) (omega arith)))
+        (λ p. rw p (omega arith))
 
-module _ (book text exact shown : List ℕ) (r : ℕ) (exact' shown' : List ℕ) (p : AccountsText book text exact shown r exact' shown') where
+module _ (from : Sources) (text exact shown : List ℕ) (r : ℕ) (exact' shown' : List ℕ) (p : AccountsText from text exact shown r exact' shown') where
   abbrev answered : Outcome
-  answered = answeredText book text exact shown
+  answered = answeredText from text exact shown
 
   -- 0 exactly for accepted
   pub text-zero-accepted : r ≡ 0 → answered ≡ Accepted
@@ -60,10 +66,10 @@ module _ (book text exact shown : List ℕ) (r : ℕ) (exact' shown' : List ℕ)
   text-accepted-zero e = p .answer ∙ ap codeOf e
 
   pub text-number-is : r / numberUnit ≡ answerNumber answered
-  text-number-is = rw (p .answer) (code-number answered (text-line-small book text (min (length exact) (length shown))))
+  text-number-is = rw (p .answer) (code-number answered (text-line-small from text (min (length exact) (length shown))))
 
   pub text-line-is : r % numberUnit ≡ answerLine answered
-  text-line-is = rw (p .answer) (code-line answered (text-line-small book text (min (length exact) (length shown))))
+  text-line-is = rw (p .answer) (code-line answered (text-line-small from text (min (length exact) (length shown))))
 
 -- ---- two outcomes
 
@@ -72,8 +78,8 @@ pub converts-code-once : (made : Made) (bytes : List ℕ) (r q : ℕ) (x y : Lis
 converts-code-once made bytes r q x y p h =
     (p .answer ∙ sym (h .answer), one-conversion made bytes _ _ x y (p .converts) (h .converts) .1)
 
-pub accounts-text-once : (book text exact shown : List ℕ) (r q : ℕ) (x x' y y' : List ℕ) → AccountsText book text exact shown r x y
-    → AccountsText book text exact shown q x' y' → (r ≡ q) × (x ≡ x') × (y ≡ y')
-accounts-text-once book text exact shown r q x x' y y' p h =
-    let same = one-declared-text book exact shown _ _ x x' y y' text (p .declared) (h .declared) in
+pub accounts-text-once : (from : Sources) (text exact shown : List ℕ) (r q : ℕ) (x x' y y' : List ℕ) → AccountsText from text exact shown r x y
+    → AccountsText from text exact shown q x' y' → (r ≡ q) × (x ≡ x') × (y ≡ y')
+accounts-text-once from text exact shown r q x x' y y' p h =
+    let same = one-declared-text from exact shown _ _ x x' y y' text (p .declared) (h .declared) in
     (p .answer ∙ sym (h .answer), same .1, same .2)

@@ -6,6 +6,7 @@ use lib.ListN.{length}
 use Rattle.answers.specs.Bundle.{bundleCode}
 use Rattle.answers.specs.declared.bundle.BundleOutcome.{BundleOutcome}
 use Rattle.bundle.specs.Whole.{bundleOutcome}
+use Rattle.desk.specs.Lent.{Sources}
 use Rattle.desk.specs.Works.{Results, BundleDeclared}
 
 -- the desk's answer to the whole, for what is lent
@@ -13,6 +14,6 @@ abbrev pub answeredBundle : (bundle : List ℕ) (before : Results) → BundleOut
 answeredBundle bundle before = bundleOutcome bundle (length (before .exact)) (length (before .shown)) (length (before .outcomes))
 
 -- the answer r is the code of the desk's, and what is lent holds what the desk leaves in it
-pub record AccountsBundle (book bundle : List ℕ) (before : Results) (r : ℕ) (after : Results) : Type 0 where
+pub record AccountsBundle (from : Sources) (bundle : List ℕ) (before : Results) (r : ℕ) (after : Results) : Type 0 where
   pub answer : r ≡ bundleCode (answeredBundle bundle before)
-  pub declared : BundleDeclared book bundle before (answeredBundle bundle before) after
+  pub declared : BundleDeclared from bundle before (answeredBundle bundle before) after

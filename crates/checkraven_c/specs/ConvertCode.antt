@@ -5,6 +5,7 @@ use mathlib.Core.List.{List}
 use lib.ListN.{length}
 use Rattle.answers.specs.Answer.{codeOf}
 use Rattle.answers.specs.declared.answer.Outcome.{Outcome}
+use Rattle.desk.specs.Lent.{Sources}
 use Rattle.text.specs.Convert.{Made, byRoom, Converts, convertedCode}
 use Rattle.text.specs.Declare.{textAnswer, DeclaredText}
 
@@ -14,10 +15,10 @@ pub record ConvertsCode (made : Made) (bytes : List ℕ) (r : ℕ) (bytes' : Lis
   pub converts : Converts made bytes (byRoom made (length bytes)) bytes'
 
 -- the desk's answer to a text, for two lent results
-abbrev pub answeredText : (book text exact shown : List ℕ) → Outcome
-answeredText book text exact shown = textAnswer book text (min (length exact) (length shown))
+abbrev pub answeredText : (from : Sources) (text exact shown : List ℕ) → Outcome
+answeredText from text exact shown = textAnswer from text (min (length exact) (length shown))
 
 -- the answer r is the code of the desk's, and both results hold what the desk leaves in them
-pub record AccountsText (book text exact shown : List ℕ) (r : ℕ) (exact' shown' : List ℕ) : Type 0 where
-  pub answer : r ≡ codeOf (answeredText book text exact shown)
-  pub declared : DeclaredText book text exact shown (answeredText book text exact shown) exact' shown'
+pub record AccountsText (from : Sources) (text exact shown : List ℕ) (r : ℕ) (exact' shown' : List ℕ) : Type 0 where
+  pub answer : r ≡ codeOf (answeredText from text exact shown)
+  pub declared : DeclaredText from text exact shown (answeredText from text exact shown) exact' shown'

@@ -1,5 +1,5 @@
 // The desk for C. A slice is a pointer and then a length.
-ghost use Rattle.desk.specs.Lent.{lent};
+ghost use Rattle.desk.specs.Lent.{sources, lent};
 ghost use Rattle.checkraven_c.specs.Code.{Accounts};
 ghost use Rattle.checkraven_c.specs.TextCode.{Reports};
 ghost use Rattle.checkraven_c.specs.BundleCode.{AccountsBundle};
@@ -23,39 +23,47 @@ const TOO_SHORT: u64 = 3;
 #[no_mangle]
 pub extern "C" fn checkraven_account(
     book: &[u8],
+    fugitive: &[u8],
     sheet: &[u8],
     exact: &mut [u64],
     shown: &mut [u64],
 ) -> u64
-    ensures { λ r. ⌜ Accounts (lent (now (book .entry)) (now (sheet .entry)))
+    ensures { λ r. ⌜ Accounts (lent (sources (now (book .entry)) (now (fugitive .entry))) (now (sheet .entry)))
         (now (exact .entry)) (now (shown .entry)) r (now (exact .exit)) (now (shown .exit)) ⌝ }
 {
-    declare(book, sheet, exact, shown).code()
+    declare(book, fugitive, sheet, exact, shown).code()
 }
 
 // 0 where the bundle is taken; else the refusal's number times 65,536. The results and the outcomes are left as the desk leaves them.
 #[no_mangle]
 pub extern "C" fn checkraven_account_bundle(
     book: &[u8],
+    fugitive: &[u8],
     bundle: &[u8],
     exact: &mut [u64],
     shown: &mut [u64],
     outcomes: &mut [u64],
 ) -> u64
-    ensures { λ r. ⌜ AccountsBundle (now (book .entry)) (now (bundle .entry))
+    ensures { λ r. ⌜ AccountsBundle (sources (now (book .entry)) (now (fugitive .entry))) (now (bundle .entry))
         (results (now (exact .entry)) (now (shown .entry)) (now (outcomes .entry))) r
         (results (now (exact .exit)) (now (shown .exit)) (now (outcomes .exit))) ⌝ }
 {
-    declare_bundle(book, bundle, exact, shown, outcomes).code()
+    declare_bundle(book, fugitive, bundle, exact, shown, outcomes).code()
 }
 
 // The bytes of the report, below 65,536; or rule 3's number times 65,536, where the text has no room for them. The text is left as the
 // report leaves it.
 #[no_mangle]
-pub extern "C" fn checkraven_report(book: &[u8], sheet: &[u8], text: &mut [u8]) -> u64
-    ensures { λ r. ⌜ Reports (lent (now (book .entry)) (now (sheet .entry))) (now (text .entry)) r (now (text .exit)) ⌝ }
+pub extern "C" fn checkraven_report(
+    book: &[u8],
+    fugitive: &[u8],
+    sheet: &[u8],
+    text: &mut [u8],
+) -> u64
+    ensures { λ r. ⌜ Reports (lent (sources (now (book .entry)) (now (fugitive .entry))) (now (sheet .entry)))
+        (now (text .entry)) r (now (text .exit)) ⌝ }
 {
-    match report(book, sheet, text) {
+    match report(book, fugitive, sheet, text) {
         Written::Bytes(bytes) => bytes as u64,
         Written::Short => TOO_SHORT * NUMBER_UNIT,
     }
@@ -81,12 +89,13 @@ pub extern "C" fn checkraven_text_from_sheet(sheet: &[u8], text: &mut [u8]) -> u
 #[no_mangle]
 pub extern "C" fn checkraven_account_text(
     book: &[u8],
+    fugitive: &[u8],
     text: &[u8],
     exact: &mut [u64],
     shown: &mut [u64],
 ) -> u64
-    ensures { λ r. ⌜ AccountsText (now (book .entry)) (now (text .entry))
+    ensures { λ r. ⌜ AccountsText (sources (now (book .entry)) (now (fugitive .entry))) (now (text .entry))
         (now (exact .entry)) (now (shown .entry)) r (now (exact .exit)) (now (shown .exit)) ⌝ }
 {
-    declare_text(book, text, exact, shown).code()
+    declare_text(book, fugitive, text, exact, shown).code()
 }

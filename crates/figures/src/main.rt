@@ -8,6 +8,8 @@ fn main() {
     worked::scalings();
     worked::lines();
     runs::runs();
+    runs::limit_runs();
+    runs::fugitive_runs();
     runs::bundle_runs();
     runs::typed_runs();
 }

@@ -3,7 +3,7 @@ use Prim.Native.Nat.{ℕ}
 use mathlib.Core.Path.{_≡_, refl}
 use mathlib.Core.List.{List, [], _∷_, _++_}
 use Rattle.numerals.specs.Numeral.{significant, numeral}
-use Rattle.report.specs.Report.{numberText, amountsText, rowText, linesText, tableText, unitText, figuresText, refusalText}
+use Rattle.report.specs.Report.{exactWord, numberText, amountsText, rowText, linesText, tableText, unitText, figuresText, refusalText}
 
 -- exact 1 330720000000 231504000000 94255200000 4960800000 0
 abbrev firstExact : List ℕ
@@ -44,6 +44,19 @@ pub document-000 :
     ≡ firstExact ++ totalExact ++ unitLine ++ firstShown ++ totalShown
 unfolding figuresText unitText tableText linesText rowText amountsText numberText numeral significant
 document-000 = refl
+
+-- exact 1 3035234586400000 2943923400000000 0 29736600000000 61574586400000
+abbrev dustExact : List ℕ
+dustExact =
+    101 ∷ 120 ∷ 97 ∷ 99 ∷ 116 ∷ 32 ∷ 49 ∷ 32 ∷ 51 ∷ 48 ∷ 51 ∷ 53 ∷ 50 ∷ 51 ∷ 52 ∷ 53 ∷ 56 ∷ 54 ∷ 52 ∷ 48 ∷ 48 ∷ 48 ∷ 48 ∷ 48 ∷ 32 ∷ 50 ∷
+    57 ∷ 52 ∷ 51 ∷ 57 ∷ 50 ∷ 51 ∷ 52 ∷ 48 ∷ 48 ∷ 48 ∷ 48 ∷ 48 ∷ 48 ∷ 48 ∷ 48 ∷ 32 ∷ 48 ∷ 32 ∷ 50 ∷ 57 ∷ 55 ∷ 51 ∷ 54 ∷ 54 ∷ 48 ∷ 48 ∷ 48 ∷
+    48 ∷ 48 ∷ 48 ∷ 48 ∷ 48 ∷ 32 ∷ 54 ∷ 49 ∷ 53 ∷ 55 ∷ 52 ∷ 53 ∷ 56 ∷ 54 ∷ 52 ∷ 48 ∷ 48 ∷ 48 ∷ 48 ∷ 48 ∷ 10 ∷ []
+
+-- document 002: F comes last
+pub document-002 :
+    rowText exactWord (numberText 1) (3035234586400000 ∷ 2943923400000000 ∷ 0 ∷ 29736600000000 ∷ 61574586400000 ∷ []) 0 ≡ dustExact
+unfolding rowText amountsText numberText numeral significant
+document-002 = refl
 
 -- refused 11 line 128
 abbrev lastRefusal : List ℕ

@@ -3,6 +3,7 @@ use Prim.Native.Nat.{ℕ, zero, suc, _+_, _*_, _≤_, _<_}
 use mathlib.Core.Bool.{Bool, true, false, _||_, not}
 use mathlib.Core.Path.{_≡_, sym, _∙_}
 use mathlib.Core.List.{List}
+use native.Mathlib.Nat.{mul-suc, mul-le-mul-left}
 use native.Mathlib.Omega.{arith}
 use lib.Dec.{leb, eqb}
 use lib.ListN.{length, length-take, length-drop}
@@ -81,29 +82,28 @@ pub block-size : (b : List ℕ) → bookHeaderOk b ≡ true → length (techniqu
 unfolding techniqueBlock
 block-size b h = let lies = header-lies b h in simp (length-take, length-drop) (omega arith)
 
--- ---- where the sheet's header is right, its lines lie in the sheet
+-- ---- where a header is right, what it counts lies in the file: the lines of a sheet, the entries of a fugitive table
+
+block-lies : (file : List ℕ) (header offset size count : ℕ) → fileOk file 0 header ≡ true → offset + size * count ≤ u32At file 0
+    → (i : ℕ) → i < count → offset + size * i + size ≤ length file
+block-lies file header offset size count whole fits i l =
+    omega (arith, file-whole file 0 header whole, fits, mul-suc size i, mul-le-mul-left size l)
 
 pub line-in : (s : List ℕ) → sheetHeaderOk s ≡ true → (i : ℕ) → i < lineCount s → LineIn s (lineStart s i)
 unfolding sheetHeaderOk
-line-in s h i l =
+line-in s h =
     let header = sheetHeader s in
     let file = fileOk s 0 sheetHeaderSize in
-    let fits = and-right file (sheetFits header) h in
-    let whole : u32At s 0 ≡ length s = file-whole s 0 sheetHeaderSize (and-left file (sheetFits header) h) in
-    let last = leb-true (header .lineOffset + lineSize * header .lines) (header .length) (every-at _ fits 5) in
-    omega (arith, whole, last)
-
--- ---- where the fugitive table's header is right, its entries lie in the table
+    let fits = every-at _ (and-right file (sheetFits header) h) 5 in
+    block-lies s sheetHeaderSize (header .lineOffset) lineSize (header .lines) (and-left file (sheetFits header) h) (leb-true _ _ fits)
 
 pub entry-in : (f : List ℕ) → fugitiveHeaderOk f ≡ true → (i : ℕ) → i < entryCount f → EntryIn f (entryStart f i)
 unfolding fugitiveHeaderOk
-entry-in f h i l =
+entry-in f h =
     let header = fugitiveHeader f in
     let file = fileOk f 0 fugitiveHeaderSize in
-    let fits = and-right file (fugitiveFits header) h in
-    let whole : u32At f 0 ≡ length f = file-whole f 0 fugitiveHeaderSize (and-left file (fugitiveFits header) h) in
-    let last = leb-true (header .offset + entrySize * header .entries) (header .length) (every-at _ fits 3) in
-    omega (arith, whole, last)
+    let fits = every-at _ (and-right file (fugitiveFits header) h) 3 in
+    block-lies f fugitiveHeaderSize (header .offset) entrySize (header .entries) (and-left file (fugitiveFits header) h) (leb-true _ _ fits)
 
 pub right-entry-in : (f : List ℕ) → fugitiveOk f ≡ true → (i : ℕ) → i < entryCount f → EntryIn f (entryStart f i)
 unfolding fugitiveOk

@@ -26,7 +26,7 @@ use Rattle.desk.specs.Cells.{width, tableSize, cellsOf}
 use Rattle.desk.specs.Account.{treatmentOf, generatedOf, inWater, byTreatment, byDust, byRow, excessive, misgraded, accountOf, lineOutcome}
 use Rattle.answers.specs.Answer.{fileRule, lineRule, answerNumber, answerLine}
 use Rattle.desk.specs.Table.{rowGiven, tableOf, bySources, bySheet, orNext, byFiles, orLine, byLines, answerOf, cellsAfter}
-use Rattle.desk.specs.Demands.{Between, OfFile, OfLine, Demand1, LineDemand, cellAt, Demand2, Demand3}
+use Rattle.desk.specs.Demands.{Between, OfFile, OfLine, LineDemand, cellAt, Demand2, Demand3}
 use Rattle.desk.specs.Declare.{shownAfter, BothAfter, Declared}
 use Rattle.desk.specs.Inner.{Ready}
 use Rattle.desk.specs.declared.line.Line.{Line}

@@ -16,7 +16,8 @@ use Rattle.fugitive.specs.Grades.{gradesBad}
 use Rattle.desk.specs.Dust.{dustOf}
 use Rattle.desk.specs.Lent.{Sources, Lent}
 use Rattle.desk.specs.Cells.{rowFrom}
-use Rattle.answers.specs.declared.answer.LineFault.the-variants.{ActivityTooLarge, ReuseTooLarge, BadGrade, NoRow, NoFugitiveEntry, NoTechnique}
+use Rattle.answers.specs.declared.answer.LineFault.the-variants.{ActivityTooLarge, ReuseTooLarge, BadGrade}
+use Rattle.answers.specs.declared.answer.LineFault.the-variants.{NoRow, NoFugitiveEntry, NoTechnique}
 use Rattle.desk.specs.declared.line.Line.{Line}
 use Rattle.desk.specs.declared.dust.Dust.{Dust}
 use Rattle.desk.specs.declared.dust.Dust.the-variants.{Escapes, NoEntry}

@@ -55,8 +55,8 @@ pub record Demand1 (f : Lent) (exact shown : List ℕ) (r : Outcome) (exact' sho
   pub shownPast : r ≡ Accepted → drop (tableSize (lineCount (f .sheet))) shown' ≡ drop (tableSize (lineCount (f .sheet))) shown
 
 -- ---- 2. Generated is coefficient times activity, exact, and is raised by F, what escapes. Removed, reused and discharged follow the
--- ---- manuals' formulas from G without F, rounded only where the rules say. Discharged is never below the manual's exact value, readings as
--- ---- the rules take them, and less than two units above it; generated equals removed plus reused plus discharged plus F. Totals are
+-- ---- manuals' formulas from G without F, rounded only where the rules say. Discharged is never below the manual's exact value, readings
+-- ---- as the rules take them, and less than two units above it; generated equals removed plus reused plus discharged plus F. Totals are
 -- ---- sums over the lines.
 
 -- a line of the sheet that left G, R, U, D, F

@@ -22,7 +22,8 @@ pub record SheetReady (told : Outcome) (from : Sources) (bundle : List ℕ) (i :
   pub shownRun : i * cellsPerSheet bundle + cellsPerSheet bundle ≤ length shown
 
 -- and what it says: its runs are as alone, and nothing else changes
-pub record SheetDone (from : Sources) (bundle : List ℕ) (i : ℕ) (exact shown : List ℕ) (r : Outcome) (exact' shown' : List ℕ) : Type 0 where
+pub record SheetDone (from : Sources) (bundle : List ℕ) (i : ℕ) (exact shown : List ℕ) (r : Outcome) (exact' shown' : List ℕ)
+    : Type 0 where
   pub declared : Declared (lent from (sheetOf bundle i)) (runOf bundle i exact) (runOf bundle i shown) r
       (runOf bundle i exact') (runOf bundle i shown')
   pub exactKept : Around (i * cellsPerSheet bundle) (cellsPerSheet bundle) exact exact'

@@ -39,8 +39,8 @@ pub(crate) fn key_from(s: &[u8], at: usize, medium: usize, pollutant: usize) -> 
     }
 }
 
-// How the five codes that stand at `at` stand to those of this key with this scale. They are compared where they stand, one after the other,
-// and nothing is read past the first that differs.
+// How the five codes at `at` stand to those of this key with this scale. They are compared where they are, one after the other, and nothing
+// is read past the first that differs.
 pub(crate) fn codes_order(s: &[u8], at: usize, k: Key, scale: usize) -> Order
     requires { ⌜ CodesIn (now s) at ⌝ }
     ensures { λ r. ⌜ r ≡ listOrder (codesAt (now (s .entry)) at) (codeFields (atScale k scale)) ⌝ }

@@ -1,5 +1,5 @@
-// The desk: it reads a coefficient book, a fugitive table and a sheet, or a bundle of sheets, and accounts for the lines. It relies on the crates below it
-// only through their promises and public laws.
+// The desk: it reads a coefficient book, a fugitive table and a sheet, or a bundle of sheets, and accounts for the lines. It relies on the
+// crates below it only through their promises and public laws.
 mod account;
 pub mod book;
 pub mod cells;

@@ -87,8 +87,8 @@ pub(crate) fn fill(b: &[u8], f: &[u8], s: &[u8], lines: usize, exact: &mut [u64]
     Outcome::Accepted
 }
 
-// The exact table alone, for a book, a fugitive table and a sheet of any content and a result of any size. On refusal every cell is zero; on
-// acceptance the cells past the table keep their values.
+// The exact table alone, for a book, a fugitive table and a sheet of any content and a result of any size. On refusal every cell is zero;
+// on acceptance the cells past the table keep their values.
 pub fn exact_table(book: &[u8], fugitive: &[u8], sheet: &[u8], exact: &mut [u64]) -> Outcome
     ensures { λ r. ⌜ ExactTable (lent (sources (now (book .entry)) (now (fugitive .entry))) (now (sheet .entry)))
         (now (exact .entry)) r (now (exact .exit)) ⌝ }

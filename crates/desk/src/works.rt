@@ -67,8 +67,8 @@ fn each_sheet(
     }
 }
 
-// Every sheet's figures or refusal, for a book, a fugitive table and a bundle of any content, results and outcomes of any size. A refusal of the whole comes
-// before anything else and zeroes all that is lent; a sheet's own refusal zeroes its runs only.
+// Every sheet's figures or refusal, for a book, a fugitive table and a bundle of any content, results and outcomes of any size. A refusal
+// of the whole comes before anything else and zeroes all that is lent; a sheet's own refusal zeroes its runs only.
 pub fn declare_bundle(
     book: &[u8],
     fugitive: &[u8],

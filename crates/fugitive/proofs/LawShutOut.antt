@@ -2,9 +2,8 @@
 -- general.
 use Prim.Native.Nat.{ℕ}
 use mathlib.Core.Path.{_≡_, refl}
-use mathlib.Core.Bool.{true, false, _||_}
+use mathlib.Core.Bool.{true, false}
 use mathlib.Core.List.{List, [], _∷_, _++_}
-use lib.Dec.{eqb}
 use lib.ListN.{replicate}
 use borrow.Author.Tests.{ne-eqb}
 use Rattle.search.specs.Test.{every}
@@ -26,15 +25,17 @@ oneToNine =
 abbrev grades : (crushing tapping spill : ℕ) → Grades
 grades crushing tapping spill = record { crushing = crushing; tapping = tapping; spill = spill }
 
+abbrev factors : (crushing tapping spill : ℕ) → ℕ
+factors crushing tapping spill = factorsOf oneToNine (grades crushing tapping spill)
+
 -- one that reads poor as good, or the grades the other way round: each grade of each place chooses its own factor
-pub each-factor : (factorsOf oneToNine (grades 1 0 0) ≡ 1) × (factorsOf oneToNine (grades 2 0 0) ≡ 2) × (factorsOf oneToNine (grades 3 0 0) ≡ 3)
-    × (factorsOf oneToNine (grades 0 1 0) ≡ 4) × (factorsOf oneToNine (grades 0 2 0) ≡ 5) × (factorsOf oneToNine (grades 0 3 0) ≡ 6)
-    × (factorsOf oneToNine (grades 0 0 1) ≡ 7) × (factorsOf oneToNine (grades 0 0 2) ≡ 8) × (factorsOf oneToNine (grades 0 0 3) ≡ 9)
+pub each-factor : (factors 1 0 0 ≡ 1) × (factors 2 0 0 ≡ 2) × (factors 3 0 0 ≡ 3) × (factors 0 1 0 ≡ 4) × (factors 0 2 0 ≡ 5) × (factors 0 3 0 ≡ 6)
+    × (factors 0 0 1 ≡ 7) × (factors 0 0 2 ≡ 8) × (factors 0 0 3 ≡ 9)
 unfolding factorsOf chosen u16At
 each-factor = (refl, refl, refl, refl, refl, refl, refl, refl, refl)
 
 -- one that takes the largest of the chosen factors, or the first, in the place of their sum; or counts an absent grade
-pub factors-summed : (factorsOf oneToNine (grades 1 2 3) ≡ 15) × (factorsOf oneToNine (grades 0 0 0) ≡ 0)
+pub factors-summed : (factors 1 2 3 ≡ 15) × (factors 0 0 0 ≡ 0)
 unfolding factorsOf chosen u16At
 factors-summed = (refl, refl)
 

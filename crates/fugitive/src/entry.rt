@@ -1,5 +1,4 @@
 // An entry of the fugitive table: the factors that a line's grades choose.
-ghost use mathlib.Core.Path.{_≡_};
 ghost use Prim.Native.Nat.{_<_};
 ghost use Rattle.little.specs.Read.{Reads, u16Range};
 ghost use Rattle.fugitive.specs.Entry.{entrySize, chosen, factorsRange, factorsOf};

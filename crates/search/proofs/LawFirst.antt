@@ -7,7 +7,7 @@ use native.Mathlib.Numerals.{add-one}
 use native.Mathlib.Nat.{le-antisymm, not-suc-le-zero, le-of-suc-le-suc, eq-or-lt-of-le}
 use native.Mathlib.Omega.{arith}
 use Rattle.search.proofs.LawTest.{clash}
-use Rattle.search.specs.First.{orAt, first, orElse}
+use Rattle.search.specs.First.{orAt, first, orElse, Finds}
 use Rattle.search.specs.declared.found.Found.{Found}
 use Rattle.search.specs.declared.found.Found.the-variants.{At, Nothing}
 
@@ -52,3 +52,10 @@ first-below p (suc n) i h = or-at-below (first n p) (p n) n i (λ j q. first-bel
 pub or-else-below : (f g : Found) (n i : ℕ) → ((j : ℕ) → f ≡ At j → j < n) → ((j : ℕ) → g ≡ At j → j < n) → orElse f g ≡ At i → i < n
 or-else-below (At k) g n i p q h = p i h
 or-else-below Nothing g n i p q h = q i h
+
+-- what is found of two searches, one after the other
+pub or-else-found : {r f : Found} {i bound : ℕ} (g : Found) → Finds r f bound → r ≡ At i → Finds (At i) (orElse f g) bound
+or-else-found {r} {f} {i} g found is = let e : f ≡ At i = sym (found .eq) ∙ is in record { eq = rw e refl; below = rw is at (found .below) }
+
+pub or-else-other : {r s f g : Found} {bound : ℕ} → Finds r f bound → r ≡ Nothing → Finds s g bound → Finds s (orElse f g) bound
+or-else-other {r} {s} {f} found none other = let e : f ≡ Nothing = sym (found .eq) ∙ none in rw e other

@@ -14,9 +14,8 @@ use lib.Dec.{ltb}
 use Rattle.search.proofs.LawTest.{either-way, clash}
 use Rattle.numerals.specs.declared.typed.Typed.{Typed}
 use Rattle.numerals.specs.declared.typed.Typed.the-variants.{Is, Malformed}
-use Rattle.records.specs.Records.{Pieces, pieces, recordIn, recordsOf, fieldEnd}
+use Rattle.records.specs.Records.{Pieces, pieces, recordIn, fieldEnd}
 use Rattle.records.specs.Follow.{behind}
-use Rattle.records.specs.Inner.{following}
 use Rattle.records.specs.declared.field.Behind.{Behind}
 use Rattle.records.specs.declared.field.Behind.the-variants.{Field, Record}
 use Rattle.records.proofs.LawField.{Follows, follows}

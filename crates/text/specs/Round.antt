@@ -21,7 +21,8 @@ pub record AccountsAlike (s s' : List ℕ) : Type 0 where
   pub exact : (from : Sources) → exactTable from s ≡ exactTable from s'
   pub shown : (from : Sources) (r : Outcome) (cells : List ℕ) → shownAfter r (lent from s) cells ≡ shownAfter r (lent from s') cells
   -- so what the desk promises to answer and to leave for the one, it promises for the other
-  pub declared : (from : Sources) (exact shown : List ℕ) (r : Outcome) (exact' shown' : List ℕ) → Declared (lent from s) exact shown r exact' shown'
+  pub declared : (from : Sources) (exact shown : List ℕ) (r : Outcome) (exact' shown' : List ℕ)
+      → Declared (lent from s) exact shown r exact' shown'
       → Declared (lent from s') exact shown r exact' shown'
 
 -- the reader takes the text, and the sheet that it makes accounts as this one

@@ -37,9 +37,9 @@ fn no_sheet(
     sources_first(book, fugitive, refusal)
 }
 
-// Figures, or one refusal, for a book, a fugitive table and a text of any content and results of any size: 1, 13, 12, 3, then the lines. The
-// sheet is read into bytes of its own, which always have room. On refusal every cell of both results is zero; on acceptance the cells past
-// the tables keep their values.
+// Figures, or one refusal, for a book, a fugitive table and a text of any content and results of any size: 1, 13, 12, 3, then the lines.
+// The sheet is read into bytes of its own, which always have room. On refusal every cell of both results is zero; on acceptance the cells
+// past the tables keep their values.
 pub fn declare_text(
     book: &[u8],
     fugitive: &[u8],

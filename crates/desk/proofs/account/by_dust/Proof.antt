@@ -1,5 +1,4 @@
 -- By cases on what escapes.
-use mathlib.Core.Path.{sym, _∙_}
 use borrow.Author.Needs.{needs}
 use Rattle.desk.proofs.account.by_dust.Statement.{statement}
 use Rattle.desk.proofs.account.by_dust.Tie as tie

@@ -15,14 +15,16 @@ fill-requires c κs =
 
 show-requires : tie.Need-show-requires
 show-requires c κs =
+    let table = c .before .before .before .before .before .before .before .before .before .before .before .before .before .shared-slice-known2 in
     let ready = c .before .before .before .before .before .before .before .before .before .before .before .before .before .before .before .pre in
     let lines = c .before .before .before .before .before .before .before .before .before .line-count .ensures .eq in
     let filled = rw lines at (c .before .before .before .before .before .before .before .fill .ensures) in
     let accepted = rw (c .before .before .before .enum-told .given .1) at (filled .table) in
-    showable _ (ready .sources .book) (λ i. c .before .before .before .before .before .before .before .before .before .before .before .before .before .shared-slice-known2 .given i .fits) (ready .sheet) _ _ _ _ lines (c .before .before .unit-of .ensures) accepted _ (omega (arith, ready .fits))
+    showable _ (ready .sources .book) (λ i. table .given i .fits) (ready .sheet) _ _ _ _ lines (c .before .before .unit-of .ensures) accepted _ (omega (arith, ready .fits))
 
 returns : tie.Need-returns
 returns c =
+    let table = c .before .before .before .before .before .before .before .before .before .before .before .before .before .before .before .before .shared-slice-known2 in
     let ready = c .before .before .before .before .before .before .before .before .before .before .before .before .before .before .before .before .before .before .pre in
     let lines = c .before .before .before .before .before .before .before .before .before .before .before .before .line-count .ensures .eq in
     let filled = rw lines at (c .before .before .before .before .before .before .before .before .before .before .fill .ensures) in
@@ -33,9 +35,9 @@ returns c =
     rw told
     (record {
       answer = sym told ∙ filled .answer;
-      tables = tables-shown _ (ready .sources .book) (λ i. c .before .before .before .before .before .before .before .before .before .before .before .before .before .before .before .before .shared-slice-known2 .given i .fits) (ready .sheet) _ _ _ _ lines unit accepted _ _ shown;
-      past = λ _. past-kept _ (ready .sources .book) (λ i. c .before .before .before .before .before .before .before .before .before .before .before .before .before .before .before .before .shared-slice-known2 .given i .fits) (ready .sheet) _ _ _ _ lines unit accepted _ _ shown;
-      allowed = λ _. allows _ (ready .sources .book) (λ i. c .before .before .before .before .before .before .before .before .before .before .before .before .before .before .before .before .shared-slice-known2 .given i .fits) (ready .sheet) _ _ _ _ lines unit accepted _ _ shown;
+      tables = tables-shown _ (ready .sources .book) (λ i. table .given i .fits) (ready .sheet) _ _ _ _ lines unit accepted _ _ shown;
+      past = λ _. past-kept _ (ready .sources .book) (λ i. table .given i .fits) (ready .sheet) _ _ _ _ lines unit accepted _ _ shown;
+      allowed = λ _. allows _ (ready .sources .book) (λ i. table .given i .fits) (ready .sheet) _ _ _ _ lines unit accepted _ _ shown;
     })
 
 returns-2 : tie.Need-returns-2

@@ -12,8 +12,9 @@ use Rattle.desk.proofs.declare.declare_told.Tie as tie
 
 both-tables-requires : tie.Need-both-tables-requires
 both-tables-requires c κs =
-    let args = c .before .before .before .before .before .before .before .before .before .before .before .args in
-    let files = files-told (lent (sources (now (args .book)) (now (args .fugitive))) (now (args .sheet))) _ (c .before .before .before .before .before .before .before .before .before .before .before .pre) (c .before .before .before .before .by-files .ensures) in
+    let entry = c .before .before .before .before .before .before .before .before .before .before .before in
+    let args = entry .args in
+    let files = files-told (lent (sources (now (args .book)) (now (args .fugitive))) (now (args .sheet))) _ (entry .pre) (c .before .before .before .before .by-files .ensures) in
     rw (c .before .before .before .before .before .shorter .ensures) at (ready _ _ (sym files ∙ c .before .before .enum-told .given .1))
 
 returns : tie.Need-returns

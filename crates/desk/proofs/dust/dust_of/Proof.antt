@@ -9,7 +9,8 @@ use Rattle.desk.proofs.dust.dust_of.Tie as tie
 
 entry-index-requires : tie.Need-entry-index-requires
 entry-index-requires c κs =
-    (c .before .before .before .before .before .pre .0, graded-key (c .before .before .before .before .before .args .line) (sym (c .before .before .is-given .ensures) ∙ c .before .if1 .taken) (c .before .before .before .before .before .pre .1))
+    let entry = c .before .before .before .before .before in
+    (entry .pre .0, graded-key (entry .args .line) (sym (c .before .before .is-given .ensures) ∙ c .before .if1 .taken) (entry .pre .1))
 
 dust-by-requires : tie.Need-dust-by-requires
 dust-by-requires c κs = (rw (c .before .i .given .1) at (c .before .before .before .entry-index .ensures .below), c .before .before .before .before .before .before .before .before .before .pre .2)

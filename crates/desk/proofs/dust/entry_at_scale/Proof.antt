@@ -41,22 +41,28 @@ loop-again : tie.Need-loop-again Inv-loop μ-loop
 loop-again c =
     let l = c .before .before .before .before .loop in
     let m = l .low + (l .high - l .low) / 2 in
-    let stands = at-scale-stands _ m _ _ (c .before .before .before .before .before .before .before .before .pre .1) (c .before .before .before .before .before .before .entry-offset .ensures .eq) (sym (c .before .before .codes-order .ensures) ∙ c .enum-told .given .1) in
-    (omega arith, l .inv .1, l .inv .2, entries-passed _ (c .before .before .before .before .before .before .before .before .pre .0) _ m (omega arith) stands, l .inv .4)
+    let entry = c .before .before .before .before .before .before .before .before in
+    let start = c .before .before .before .before .before .before .entry-offset .ensures .eq in
+    let stands = at-scale-stands _ m _ _ (entry .pre .1) start (sym (c .before .before .codes-order .ensures) ∙ c .enum-told .given .1) in
+    (omega arith, l .inv .1, l .inv .2, entries-passed _ (entry .pre .0) _ m (omega arith) stands, l .inv .4)
 
 returns : tie.Need-returns Inv-loop μ-loop
 returns c =
     let l = c .before .before .before .before .loop in
     let m = l .low + (l .high - l .low) / 2 in
-    let stands = at-scale-stands _ m _ _ (c .before .before .before .before .before .before .before .before .pre .1) (c .before .before .before .before .before .before .entry-offset .ensures .eq) (sym (c .before .before .codes-order .ensures) ∙ c .enum-told2 .given .1) in
-    record { eq = entry-here _ (c .before .before .before .before .before .before .before .before .pre .0) _ m (omega arith) stands; below = omega arith }
+    let entry = c .before .before .before .before .before .before .before .before in
+    let start = c .before .before .before .before .before .before .entry-offset .ensures .eq in
+    let stands = at-scale-stands _ m _ _ (entry .pre .1) start (sym (c .before .before .codes-order .ensures) ∙ c .enum-told2 .given .1) in
+    record { eq = entry-here _ (entry .pre .0) _ m (omega arith) stands; below = omega arith }
 
 loop-again-2 : tie.Need-loop-again-2 Inv-loop μ-loop
 loop-again-2 c =
     let l = c .before .before .before .before .loop in
     let m = l .low + (l .high - l .low) / 2 in
-    let stands = at-scale-stands _ m _ _ (c .before .before .before .before .before .before .before .before .pre .1) (c .before .before .before .before .before .before .entry-offset .ensures .eq) (sym (c .before .before .codes-order .ensures) ∙ c .enum-told3 .given .1) in
-    (omega arith, omega arith, omega arith, l .inv .3, entries-past _ (c .before .before .before .before .before .before .before .before .pre .0) _ m (omega arith) stands)
+    let entry = c .before .before .before .before .before .before .before .before in
+    let start = c .before .before .before .before .before .before .entry-offset .ensures .eq in
+    let stands = at-scale-stands _ m _ _ (entry .pre .1) start (sym (c .before .before .codes-order .ensures) ∙ c .enum-told3 .given .1) in
+    (omega arith, omega arith, omega arith, l .inv .3, entries-past _ (entry .pre .0) _ m (omega arith) stands)
 
 returns-2 : tie.Need-returns-2 Inv-loop μ-loop
 returns-2 c =

@@ -22,7 +22,11 @@ returns-2 c =
 returns-3 : tie.Need-returns-3
 unfolding codesAt atScale
 returns-3 c =
-    rw (← from-start _ _ _ (c .before .before .before .before .before .before .before .before .before .u16-in .ensures .eq), ← c .before .before .before .before .before .before .u16-in2 .ensures .eq, ← c .before .before .before .u16-in3 .ensures .eq)
+    rw (
+      ← from-start _ _ _ (c .before .before .before .before .before .before .before .before .before .u16-in .ensures .eq),
+      ← c .before .before .before .before .before .before .u16-in2 .ensures .eq,
+      ← c .before .before .before .u16-in3 .ensures .eq,
+    )
     (c .order-of3 .ensures
     ∙ first-differ _ _ _ _ (c .before .if3 .taken)
     ∙ first-same _ _ _ _ (c .before .before .before .before .if2 .left)

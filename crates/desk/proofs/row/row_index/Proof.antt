@@ -1,6 +1,6 @@
 -- The exact scale first, and where that is not found scale 0.
-use mathlib.Core.Path.{sym, _∙_}
 use borrow.Author.Needs.{needs}
+use Rattle.search.proofs.LawFirst.{or-else-found, or-else-other}
 use Rattle.desk.specs.Key.{allScales}
 use Rattle.desk.specs.Row.{rowIndex}
 use Rattle.desk.specs.Inner.{atScale}
@@ -9,19 +9,11 @@ use Rattle.desk.proofs.row.row_index.Tie as tie
 
 returns : tie.Need-returns
 unfolding rowIndex atScale
-returns c =
-    record {
-      eq = rw (sym (c .before .before .before .index-of .ensures .eq) ∙ c .before .i .given .1);
-      below = rw (c .before .i .given .1) at (c .before .before .before .index-of .ensures .below);
-    }
+returns c = or-else-found _ (c .before .before .before .index-of .ensures) (c .before .i .given .1)
 
 returns-2 : tie.Need-returns-2
 unfolding rowIndex atScale allScales
-returns-2 c =
-    record {
-      eq = rw (sym (c .before .before .before .index-of .ensures .eq) ∙ c .before .enum-told .given .1) (c .index-of2 .ensures .eq);
-      below = c .index-of2 .ensures .below;
-    }
+returns-2 c = or-else-other (c .before .before .before .index-of .ensures) (c .before .enum-told .given .1) (c .index-of2 .ensures)
 
 pub row-index-spec : {M : Type 1} → statement M
 row-index-spec =

@@ -55,14 +55,19 @@ add-requires c κs =
     let loop = c .before .before .before .before .before .before .before .before .before .loop in
     let line-outcome = c .before .before .before .before .before .before .before .line-outcome in
     let row = c .before .before .before .before .before .row in
-    let balances = line-balances (lent (sources (now (entry .args .b)) (now (entry .args .f))) (now (entry .args .s))) (entry .pre .sources .book) (λ i. c .before .before .before .before .before .before .before .before .before .before .before .before .before .shared-slice-known2 .given i .fits) in
+    let table = c .before .before .before .before .before .before .before .before .before .before .before .before .before .shared-slice-known2 in
+    let balances = line-balances (lent (sources (now (entry .args .b)) (now (entry .args .f))) (now (entry .args .s))) (entry .pre .sources .book) (λ i. table .given i .fits) in
     tally-fits _ balances _ (omega arith) (loop .inv .3) (sym (line-outcome .ensures) ∙ row .given .1)
 
 add-t15 : tie.Need-add-t15 Inv-loop μ-loop
-add-t15 c = omega (arith, c .before .before .before .before .before .before .before .before .loop-test .taken, c .before .before .before .before .before .before .before .before .before .before .before .before .before .before .before .pre .few)
+add-t15 c =
+    let few = c .before .before .before .before .before .before .before .before .before .before .before .before .before .before .before .pre .few in
+    omega (arith, c .before .before .before .before .before .before .before .before .loop-test .taken, few)
 
 cast-t16 : tie.Need-cast-t16 Inv-loop μ-loop
-cast-t16 c = omega (arith, c .before .before .before .before .before .before .before .before .loop-test .taken, c .before .before .before .before .before .before .before .before .before .before .before .before .before .before .before .pre .few)
+cast-t16 c =
+    let few = c .before .before .before .before .before .before .before .before .before .before .before .before .before .before .before .pre .few in
+    omega (arith, c .before .before .before .before .before .before .before .before .loop-test .taken, few)
 
 put-row-requires : tie.Need-put-row-requires Inv-loop μ-loop
 put-row-requires c κs =

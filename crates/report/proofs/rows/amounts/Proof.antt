@@ -9,7 +9,10 @@ use Rattle.report.proofs.rows.amounts.Tie as tie
 put-requires : tie.Need-put-requires
 put-requires c κs =
     let asked = c .before .before .before .before .before .before .before .before .before .before .before .before .before .before .before .before .before .before .before .before .before .before .before .before .before .before .before .before .before .pre in
-    let four = then (then (then (c .before .before .before .before .before .before .before .before .before .before .before .before .before .before .before .before .before .before .before .before .before .before .before .before .number .ensures) (c .before .before .before .before .before .before .before .before .before .before .before .before .before .before .before .before .before .before .before .number2 .ensures)) (c .before .before .before .before .before .before .before .before .before .before .before .before .before .before .number3 .ensures)) (c .before .before .before .before .before .before .before .before .before .number4 .ensures) in
+    let first = c .before .before .before .before .before .before .before .before .before .before .before .before .before .before .before .before .before .before .before .before .before .before .before .before .number .ensures in
+    let two = then first (c .before .before .before .before .before .before .before .before .before .before .before .before .before .before .before .before .before .before .before .number2 .ensures) in
+    let three = then two (c .before .before .before .before .before .before .before .before .before .before .before .before .before .before .number3 .ensures) in
+    let four = then three (c .before .before .before .before .before .before .before .before .before .number4 .ensures) in
     let five = then four (c .before .before .before .before .number5 .ensures) in
     omega (arith, asked .1, five .ends, five .few)
 
@@ -21,7 +24,10 @@ returns c =
     let cell3 = c .before .before .before .before .before .before .before .before .before .before .before .before .before .before .before .before .before .before .cell3 in
     let cell4 = c .before .before .before .before .before .before .before .before .before .before .before .before .before .cell4 in
     let cell5 = c .before .before .before .before .before .before .before .before .cell5 in
-    let four = then (then (then (c .before .before .before .before .before .before .before .before .before .before .before .before .before .before .before .before .before .before .before .before .before .before .before .before .before .before .before .number .ensures) (c .before .before .before .before .before .before .before .before .before .before .before .before .before .before .before .before .before .before .before .before .before .before .number2 .ensures)) (c .before .before .before .before .before .before .before .before .before .before .before .before .before .before .before .before .before .number3 .ensures)) (c .before .before .before .before .before .before .before .before .before .before .before .before .number4 .ensures) in
+    let first = c .before .before .before .before .before .before .before .before .before .before .before .before .before .before .before .before .before .before .before .before .before .before .before .before .before .before .before .number .ensures in
+    let two = then first (c .before .before .before .before .before .before .before .before .before .before .before .before .before .before .before .before .before .before .before .before .before .before .number2 .ensures) in
+    let three = then two (c .before .before .before .before .before .before .before .before .before .before .before .before .before .before .before .before .before .number3 .ensures) in
+    let four = then three (c .before .before .before .before .before .before .before .before .before .before .before .before .number4 .ensures) in
     let five = then four (c .before .before .before .before .before .before .before .number5 .ensures) in
     rw (← cell .ensures, ← cell2 .ensures, ← cell3 .ensures, ← cell4 .ensures, ← cell5 .ensures) (then five (c .before .before .put .ensures))
 

@@ -14,7 +14,8 @@ returns : tie.Need-returns
 unfolding reportOf
 returns c =
     let desk = c .before .before .before .before .before .before .before .before .before .declare .ensures in
-    rw (← desk .demand1 .answer) (rw (c .before .before .before .before .before .code .ensures, told-is _ _ _ _ _ _ desk (λ i. c .before .before .before .before .before .before .before .before .before .before .before .before .before .before .shared-slice-known2 .given i .fits)) at (c .before .before .tell .ensures))
+    let table = c .before .before .before .before .before .before .before .before .before .before .before .before .before .before .shared-slice-known2 in
+    rw (← desk .demand1 .answer) (rw (c .before .before .before .before .before .code .ensures, told-is _ _ _ _ _ _ desk (λ i. table .given i .fits)) at (c .before .before .tell .ensures))
 
 pub told-spec : {M : Type 1} → statement M
 told-spec =

@@ -22,22 +22,34 @@ same-length c = c .before .before .before .before .before .loop .inv .size ∙ s
 
 returns : tie.Need-returns Inv-loop μ-loop
 returns c =
-    record-broken (c .before .before .before .before .before .before .before .before .before .args .text .now) (c .before .before .before .before .before .before .before .before .before .args .at) (c .before .before .before .before .before .before .before .before .before .args .needed) (c .before .before .before .before .before .before .before .before .before .args .takes .now) (c .before .before .before .before .before .loop .numbers) (c .before .before .before .before .before .loop .next)
-    (c .before .before .before .before .before .loop .j) (c .before .before .before .before .before .loop .inv) (c .before .before .before .before .loop-test .taken) (sym (c .before .before .field-at .ensures) ∙ c .enum-told .given .1)
+    let args = c .before .before .before .before .before .before .before .before .before .args in
+    let l = c .before .before .before .before .before .loop in
+    record-broken (args .text .now) (args .at) (args .needed) (args .takes .now) (l .numbers) (l .next) (l .j) (l .inv) (c .before .before .before .before .loop-test .taken)
+    (sym (c .before .before .field-at .ensures) ∙ c .enum-told .given .1)
 
 slice-write-numbers : tie.Need-slice-write-numbers Inv-loop μ-loop
 slice-write-numbers c = omega (arith, c .before .before .before .before .before .before .loop .inv .size, c .before .before .before .before .before .loop-test .taken)
 
 ended-requires : tie.Need-ended-requires Inv-loop μ-loop
-ended-requires c κs = omega (arith, length-set (c .before .before .before .before .before .before .before .loop .numbers) (c .before .before .before .before .before .before .before .loop .j) (c .before .before .number .given .0 .0), c .before .before .before .before .before .before .before .loop .inv .size, c .before .before .before .before .before .before .loop-test .taken)
+ended-requires c κs =
+    let l = c .before .before .before .before .before .before .before .loop in
+    let size = length-set (l .numbers) (l .j) (c .before .before .number .given .0 .0) in
+    omega (arith, size, l .inv .size, c .before .before .before .before .before .before .loop-test .taken)
 
 same-length-2 : tie.Need-same-length-2 Inv-loop μ-loop
-same-length-2 c = c .before .numbers .given ∙ length-set (c .before .before .before .before .before .before .before .before .before .before .loop .numbers) (c .before .before .before .before .before .before .before .before .before .before .loop .j) (c .before .before .before .before .before .number .given .0 .0) ∙ c .before .before .before .before .before .before .before .before .before .before .loop .inv .size ∙ sym (c .before .before .before .before .before .before .before .before .before .before .before .before .before .before .pre .same)
+same-length-2 c =
+    let l = c .before .before .before .before .before .before .before .before .before .before .loop in
+    let size = length-set (l .numbers) (l .j) (c .before .before .before .before .before .number .given .0 .0) in
+    c .before .numbers .given ∙ size ∙ l .inv .size ∙ sym (c .before .before .before .before .before .before .before .before .before .before .before .before .before .before .pre .same)
 
 returns-2 : tie.Need-returns-2 Inv-loop μ-loop
 returns-2 c =
-    record-ended (c .before .before .before .before .before .before .before .before .before .before .before .before .before .before .args .text .now) (c .before .before .before .before .before .before .before .before .before .before .before .before .before .before .args .at) (c .before .before .before .before .before .before .before .before .before .before .before .before .before .before .args .needed) (c .before .before .before .before .before .before .before .before .before .before .before .before .before .before .args .takes .now) (c .before .before .before .before .before .before .before .before .before .before .loop .numbers) (c .before .before .before .before .before .before .before .before .before .before .loop .next)
-    (c .before .before .before .before .before .before .before .before .before .before .loop .j) (c .before .before .before .before .before .before .before .before .before .before .loop .inv) (c .before .before .before .before .before .before .before .before .before .loop-test .taken) _ _ (c .before .before .before .before .before .before .before .before .before .before .before .before .before .before .pre .asked) (sym (c .before .before .before .before .before .before .before .field-at .ensures) ∙ c .before .before .before .before .before .number .given .1) _ _ (c .before .before .ended .ensures)
+    let entry = c .before .before .before .before .before .before .before .before .before .before .before .before .before .before in
+    let args = entry .args in
+    let l = c .before .before .before .before .before .before .before .before .before .before .loop in
+    let read = sym (c .before .before .before .before .before .before .before .field-at .ensures) ∙ c .before .before .before .before .before .number .given .1 in
+    record-ended (args .text .now) (args .at) (args .needed) (args .takes .now) (l .numbers) (l .next) (l .j) (l .inv) (c .before .before .before .before .before .before .before .before .before .loop-test .taken) _ _ (entry .pre .asked)
+    read _ _ (c .before .before .ended .ensures)
 
 slice-write-numbers-2 : tie.Need-slice-write-numbers-2 Inv-loop μ-loop
 slice-write-numbers-2 c = omega (arith, c .before .before .before .before .before .before .loop .inv .size, c .before .before .before .before .before .loop-test .taken)
@@ -47,16 +59,19 @@ loop-less c = omega (arith, c .before .before .before .before .before .loop-test
 
 loop-again : tie.Need-loop-again Inv-loop μ-loop
 loop-again c =
-    record-step (c .before .before .before .before .before .before .before .before .before .before .args .text .now) (c .before .before .before .before .before .before .before .before .before .before .args .at) (c .before .before .before .before .before .before .before .before .before .before .args .needed) (c .before .before .before .before .before .before .before .before .before .before .args .takes .now) (c .before .before .before .before .before .before .loop .numbers) (c .before .before .before .before .before .before .loop .next)
-    (c .before .before .before .before .before .before .loop .j) (c .before .before .before .before .before .before .loop .inv) (c .before .before .before .before .before .loop-test .taken) _ _ (sym (c .before .before .before .field-at .ensures) ∙ c .before .number2 .given .1)
+    let args = c .before .before .before .before .before .before .before .before .before .before .args in
+    let l = c .before .before .before .before .before .before .loop in
+    record-step (args .text .now) (args .at) (args .needed) (args .takes .now) (l .numbers) (l .next) (l .j) (l .inv) (c .before .before .before .before .before .loop-test .taken) _ _
+    (sym (c .before .before .before .field-at .ensures) ∙ c .before .number2 .given .1)
 
 same-length-3 : tie.Need-same-length-3 Inv-loop μ-loop
 same-length-3 c = c .before .loop .inv .size ∙ sym (c .before .before .before .before .before .pre .same)
 
 returns-3 : tie.Need-returns-3 Inv-loop μ-loop
 returns-3 c =
-    record-long (c .before .before .before .before .before .args .text .now) (c .before .before .before .before .before .args .at) (c .before .before .before .before .before .args .needed) (c .before .before .before .before .before .args .takes .now) (c .before .loop .numbers) (c .before .loop .next)
-    (c .before .loop .j) (c .before .loop .inv) (c .loop-test .left)
+    let args = c .before .before .before .before .before .args in
+    let l = c .before .loop in
+    record-long (args .text .now) (args .at) (args .needed) (args .takes .now) (l .numbers) (l .next) (l .j) (l .inv) (c .loop-test .left)
 
 pub read-record-spec : {M : Type 1} → statement M
 read-record-spec =

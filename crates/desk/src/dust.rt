@@ -1,15 +1,14 @@
 // The dust of a line that never meets a duct.
 ghost use mathlib.Core.Path.{_≡_};
 ghost use mathlib.Core.Bool.{true, false};
-ghost use Prim.Native.Nat.{_<_, _≤_};
+ghost use Prim.Native.Nat.{_<_};
 ghost use Rattle.search.specs.First.{Finds, first};
 ghost use Rattle.fugitive.specs.Table.{entryCount};
 ghost use Rattle.desk.specs.Entries.{fugitiveOk};
-ghost use Rattle.desk.specs.Line.{mostKilograms};
 ghost use Rattle.desk.specs.Account.{misgraded};
 ghost use Rattle.desk.specs.Dust.{entryHas, entryIndex, dustBy, dustOf};
 ghost use Rattle.search.specs.declared.found.Found.the-variants.{At};
-ghost use Rattle.desk.specs.Inner.{counted, atScale, OfDust, FindsDust};
+ghost use Rattle.desk.specs.Inner.{counted, atScale, OfDust, Moderate, FindsDust};
 use super::key::ALL_SCALES;
 use super::key::Key;
 use super::key::codes_order;
@@ -63,7 +62,7 @@ fn entry_index(f: &[u8], k: Key) -> Found
 
 // By entry i.
 fn dust_by(f: &[u8], i: usize, line: Line) -> Dust
-    requires { ⌜ (i < counted) × (line .product ≤ mostKilograms) ⌝ }
+    requires { ⌜ (i < counted) × Moderate line ⌝ }
     ensures { λ r. ⌜ FindsDust r (dustBy (now (f .entry)) line (At i)) ⌝ }
 {
     let entry = part(f, entry_offset(f) + ENTRY_SIZE * i, ENTRY_SIZE);
@@ -73,7 +72,7 @@ fn dust_by(f: &[u8], i: usize, line: Line) -> Dust
 
 // A line without grades needs no entry.
 pub(crate) fn dust_of(f: &[u8], line: Line) -> Dust
-    requires { ⌜ (fugitiveOk (now f) ≡ true) × (misgraded line ≡ false) × (line .product ≤ mostKilograms) ⌝ }
+    requires { ⌜ (fugitiveOk (now f) ≡ true) × (misgraded line ≡ false) × Moderate line ⌝ }
     ensures { λ r. ⌜ FindsDust r (dustOf (now (f .entry)) line) ⌝ }
 {
     let grades = line.grades;

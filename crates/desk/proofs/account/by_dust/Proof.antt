@@ -4,7 +4,7 @@ use Rattle.desk.proofs.account.by_dust.Statement.{statement}
 use Rattle.desk.proofs.account.by_dust.Tie as tie
 
 dust-of-requires : tie.Need-dust-of-requires
-dust-of-requires c κs = (c .before .before .pre .fugitive, c .before .before .pre .graded, c .before .before .pre .able .activity .product)
+dust-of-requires c κs = (c .before .before .pre .fugitive, c .before .before .pre .graded, c .before .before .pre .able .activity)
 
 by-treatment-requires : tie.Need-by-treatment-requires
 by-treatment-requires c κs = (c .before .before .before .before .before .before .pre .able, rw (c .before .fugitive .given .1) at (c .before .before .before .dust-of .ensures .small))

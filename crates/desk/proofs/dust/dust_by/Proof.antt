@@ -7,13 +7,15 @@ use Rattle.desk.proofs.dust.dust_by.Statement.{statement}
 use Rattle.desk.proofs.dust.dust_by.Tie as tie
 
 mul-t11 : tie.Need-mul-t11
-mul-t11 c = product-fits 19_660_500 1_000_000_000 (omega (arith, c .before .factors-of .ensures .small)) (c .before .before .before .before .before .pre .1) tt
+mul-t11 c =
+    let most = c .before .before .before .before .before .pre .1 in
+    product-fits 19_660_500 1_000_000_000 (omega (arith, c .before .factors-of .ensures .small)) (omega (arith, most .product, most .material)) tt
 
 returns : tie.Need-returns
 returns c =
     record {
       eq = rw (← c .before .before .before .entry-offset .ensures .eq, ← c .before .before .part .ensures, ← c .before .factors-of .ensures .eq);
-      small = dust-most _ _ (omega (arith, c .before .factors-of .ensures .small)) (c .before .before .before .before .before .pre .1);
+      small = dust-most _ _ (omega (arith, c .before .factors-of .ensures .small)) (c .before .before .before .before .before .pre .1 .product);
     }
 
 pub dust-by-spec : {M : Type 1} → statement M

@@ -1,11 +1,12 @@
 /*
- * Checkraven, the declaration desk: from a coefficient book, a fugitive table
+ * Checkraven, the declaration desk: from two coefficient books, a fugitive table
  * and a sheet to two tables, exact and shown.
  *
- * A sheet is one works' year for one pollutant in one medium. The fugitive table
- * has the factors of dust that never meets a duct. A bundle has several sheets
- * for one call. A text sheet is a sheet typed in a spreadsheet and saved as
- * comma-separated text.
+ * A sheet is one works' year for one pollutant in one medium. The works' own book
+ * has the factors that it measured itself, and is asked before the published
+ * one. The fugitive table has the factors of dust that never meets a duct. A
+ * bundle has several sheets for one call. A text sheet is a sheet typed in a
+ * spreadsheet and saved as comma-separated text.
  */
 #ifndef CHECKRAVEN_H
 #define CHECKRAVEN_H
@@ -26,12 +27,12 @@ extern "C" {
  * sheet 12 is looked for in the place of 2. For a whole bundle 16 is looked for
  * first, then 3, and no other.
  */
-#define CHECKRAVEN_BOOK_MALFORMED      1  /* book malformed or over a limit */
+#define CHECKRAVEN_BOOK_MALFORMED      1  /* either book malformed or over a limit */
 #define CHECKRAVEN_SHEET_MALFORMED     2  /* sheet malformed, over a limit, or shown unit not 1 to 3 */
 #define CHECKRAVEN_RESULT_TOO_SHORT    3  /* either result shorter than 5 * (lines + 1), or too little room lent */
 #define CHECKRAVEN_ACTIVITY_TOO_LARGE  4  /* product or material above 10^9 kg */
 #define CHECKRAVEN_REUSE_TOO_LARGE     5  /* reuse above 1000, in any medium */
-#define CHECKRAVEN_NO_ROW              6  /* no row */
+#define CHECKRAVEN_NO_ROW              6  /* no row in either book */
 #define CHECKRAVEN_NO_TECHNIQUE        7  /* technique not in the row's list */
 #define CHECKRAVEN_WRONG_KIND          8  /* reading kind doesn't go with the k rule */
 #define CHECKRAVEN_BAD_READING         9  /* a used reading is bad or over its limit */
@@ -65,18 +66,35 @@ extern "C" {
 /* Bytes that are enough for the text of every sheet: 26 for each field. */
 #define CHECKRAVEN_MOST_SHEET_TEXT 53326
 
+/* The most rows in a book. */
+#define CHECKRAVEN_MOST_ROWS 1024
+
+/* Bytes that are enough for every row of a book. */
+#define CHECKRAVEN_MOST_ROW 24
+
+/* The own book of a works that has no factors of its own: no rows. */
+static const uint8_t checkraven_no_own[16] = { 16, 0, 0, 0, 0, 0, 0, 0, 16, 0, 0, 0, 16, 0, 0, 0 };
+
 /* The fugitive table of a works without fugitive dust: no entries. */
 static const uint8_t checkraven_no_fugitive[12] = { 12, 0, 0, 0, 0, 0, 0, 0, 12, 0, 0, 0 };
 
 /*
- * Accounts for one sheet with one book and one fugitive table.
+ * Accounts for one sheet with two books and one fugitive table.
  *
- * Lent for reading: the book (book_len bytes), the fugitive table (fugitive_len
- * bytes) and the sheet (sheet_len bytes). They never change.
+ * Lent for reading: the works' own book (own_len bytes), the published book
+ * (book_len bytes), the fugitive table (fugitive_len bytes) and the sheet
+ * (sheet_len bytes). They never change.
  * Lent for writing: the results exact (exact_len cells) and shown (shown_len
  * cells). They overlap neither each other nor the files.
  * No pointer is null, also where its length is 0, and both results are aligned
- * as uint64_t. The files may stand at any address.
+ * as uint64_t. The files may stand at any address, and the own book may be the
+ * published one.
+ *
+ * Both books have the same form. A line's row is searched in the own book for the
+ * line's scale, then there for scale 0, then in the published book for the line's
+ * scale, then there for scale 0; the first that is found is the line's row. The
+ * techniques that its list names stand in the same book. A works that holds no
+ * factors of its own lends checkraven_no_own.
  *
  * A fugitive table has at most 65,536 bytes, little-endian: its length u32, the
  * number of its entries u16 (at most 1,024), zero u16, the offset of its entries
@@ -105,19 +123,22 @@ static const uint8_t checkraven_no_fugitive[12] = { 12, 0, 0, 0, 0, 0, 0, 0, 12,
  *
  * Otherwise the answer is number * 65536 + line: the first refusal in the
  * order 1, 13, 2, 3, then lines from 1 up, each in the order 4, 5, 15, 6, 14,
- * 7 to 11. All cells of both results are then zero.
+ * 7 to 11. 1 is for either book, and the own one is looked at first; 6 is for a
+ * line that has no row in either. All cells of both results are then zero.
  */
-uint64_t checkraven_account(const uint8_t *book, size_t book_len,
+uint64_t checkraven_account(const uint8_t *own, size_t own_len,
+                            const uint8_t *book, size_t book_len,
                             const uint8_t *fugitive, size_t fugitive_len,
                             const uint8_t *sheet, size_t sheet_len,
                             uint64_t *exact, size_t exact_len,
                             uint64_t *shown, size_t shown_len);
 
 /*
- * Accounts for every sheet of a bundle with one book and one fugitive table.
+ * Accounts for every sheet of a bundle with two books and one fugitive table.
  *
- * Lent for reading: the book (book_len bytes), the fugitive table (fugitive_len
- * bytes) and the bundle (bundle_len bytes). They never change.
+ * Lent for reading: the works' own book (own_len bytes), the published book
+ * (book_len bytes), the fugitive table (fugitive_len bytes) and the bundle
+ * (bundle_len bytes). They never change.
  * Lent for writing: the results exact (exact_len cells) and shown (shown_len
  * cells), and outcomes (outcomes_len cells). They overlap neither each other
  * nor the files.
@@ -136,18 +157,20 @@ uint64_t checkraven_account(const uint8_t *book, size_t book_len,
  * what checkraven_account leaves and answers for that sheet alone, with the
  * two runs lent to it: a refused sheet's runs are zero, and no other's. Cells
  * past all runs keep their values, and so do outcomes past the number of
- * sheets. A bad book is refused for each sheet, and so is a bad fugitive table; a
- * bundle without sheets is taken with any of them and changes nothing.
+ * sheets. A bad book, of either kind, is refused for each sheet, and so is a bad
+ * fugitive table; a bundle without sheets is taken with any of them and changes
+ * nothing.
  *
  * Otherwise the answer is number * 65536, and all cells of exact, shown and
  * outcomes are zero:
  *   CHECKRAVEN_BUNDLE_MALFORMED: the bundle isn't as above.
  *   CHECKRAVEN_RESULT_TOO_SHORT: either result has fewer than sheets * cells
  *                                per sheet, or outcomes fewer than sheets.
- * They are looked for in this order, before the book, the fugitive table and any
+ * They are looked for in this order, before the books, the fugitive table and any
  * sheet.
  */
-uint64_t checkraven_account_bundle(const uint8_t *book, size_t book_len,
+uint64_t checkraven_account_bundle(const uint8_t *own, size_t own_len,
+                                   const uint8_t *book, size_t book_len,
                                    const uint8_t *fugitive, size_t fugitive_len,
                                    const uint8_t *bundle, size_t bundle_len,
                                    uint64_t *exact, size_t exact_len,
@@ -155,11 +178,12 @@ uint64_t checkraven_account_bundle(const uint8_t *book, size_t book_len,
                                    uint64_t *outcomes, size_t outcomes_len);
 
 /*
- * Writes the report of one sheet with one book and one fugitive table: the text
+ * Writes the report of one sheet with two books and one fugitive table: the text
  * that the program prints.
  *
- * Lent for reading: the book (book_len bytes), the fugitive table (fugitive_len
- * bytes) and the sheet (sheet_len bytes). They never change.
+ * Lent for reading: the works' own book (own_len bytes), the published book
+ * (book_len bytes), the fugitive table (fugitive_len bytes) and the sheet
+ * (sheet_len bytes). They never change.
  * Lent for writing: the text (text_len bytes). It overlaps no file.
  * No pointer is null, also where its length is 0. The files and the text may
  * stand at any address.
@@ -175,7 +199,8 @@ uint64_t checkraven_account_bundle(const uint8_t *book, size_t book_len,
  * Where the text has no room for all of them the answer is
  * CHECKRAVEN_RESULT_TOO_SHORT * 65536, and all bytes of the text are zero.
  */
-uint64_t checkraven_report(const uint8_t *book, size_t book_len,
+uint64_t checkraven_report(const uint8_t *own, size_t own_len,
+                           const uint8_t *book, size_t book_len,
                            const uint8_t *fugitive, size_t fugitive_len,
                            const uint8_t *sheet, size_t sheet_len,
                            uint8_t *text, size_t text_len);
@@ -244,18 +269,67 @@ uint64_t checkraven_text_from_sheet(const uint8_t *sheet, size_t sheet_len,
                                     uint8_t *text, size_t text_len);
 
 /*
- * Accounts for one text sheet with one book and one fugitive table.
+ * Accounts for one text sheet with two books and one fugitive table.
  *
  * All is as with checkraven_account for the sheet that
  * checkraven_sheet_from_text writes for the text, with 12 in the place of 2: the
  * first refusal is the first in the order 1, 13, 12, 3, then lines from 1 up,
  * each in the order 4, 5, 15, 6, 14, 7 to 11.
  */
-uint64_t checkraven_account_text(const uint8_t *book, size_t book_len,
+uint64_t checkraven_account_text(const uint8_t *own, size_t own_len,
+                                 const uint8_t *book, size_t book_len,
                                  const uint8_t *fugitive, size_t fugitive_len,
                                  const uint8_t *text, size_t text_len,
                                  uint64_t *exact, size_t exact_len,
                                  uint64_t *shown, size_t shown_len);
+
+/*
+ * Copies the bytes of the row that answers, from whichever of the two books has
+ * it, for the inspector's screen.
+ *
+ * Lent for reading: the works' own book (own_len bytes) and the published book
+ * (book_len bytes). They never change.
+ * Lent for writing: the row (row_len bytes). It overlaps no book.
+ * No pointer is null, also where its length is 0. The books and the row may stand
+ * at any address, and the own book may be the published one.
+ *
+ * The row that answers is the one that checkraven_account takes for a line with
+ * this industry, product, material, process and scale in a sheet of this medium
+ * and pollutant. A number that no field can hold, as industry 65536 or medium
+ * 256, finds no row.
+ *
+ * The answer is the number of bytes copied, 24. The row then begins with them, as
+ * they stand in their book, and further bytes keep their values.
+ * The answer is 0 where no row is found, and where either book is one that
+ * checkraven_account refuses with 1. All bytes of the row keep their values.
+ * The answer is CHECKRAVEN_RESULT_TOO_SHORT * 65536 where a row is found and the
+ * lent one has no room for it. All its bytes are then zero.
+ */
+uint64_t checkraven_row(const uint8_t *own, size_t own_len,
+                        const uint8_t *book, size_t book_len,
+                        uint64_t industry, uint64_t product, uint64_t material,
+                        uint64_t process, uint64_t scale,
+                        uint64_t medium, uint64_t pollutant,
+                        uint8_t *row, size_t row_len);
+
+/*
+ * Says which row answers: in which of the two books it stands, and where there.
+ *
+ * All is as with checkraven_row, but that nothing is lent for writing.
+ *
+ * The answer, always below 65536, counts rows from 1:
+ *   0:                             no row is found, or either book is refused.
+ *   1 to CHECKRAVEN_MOST_ROWS:     that row of the works' own book.
+ *   above CHECKRAVEN_MOST_ROWS:    less CHECKRAVEN_MOST_ROWS, that row of the
+ *                                  published book.
+ * Row n of a book begins 24 * (n - 1) bytes after its row offset, the u32 at byte
+ * 8 of its header.
+ */
+uint64_t checkraven_row_number(const uint8_t *own, size_t own_len,
+                               const uint8_t *book, size_t book_len,
+                               uint64_t industry, uint64_t product, uint64_t material,
+                               uint64_t process, uint64_t scale,
+                               uint64_t medium, uint64_t pollutant);
 
 #ifdef __cplusplus
 }

@@ -2,9 +2,9 @@
  * How much stack one call of the library takes: the call is made on a stack of
  * our own that was painted before, and what is no longer painted was used.
  *
- * Usage: stack BOOK FUGITIVE SHEET BUNDLE, four files. Prints a line for each function:
- * its name, the bytes, and its answer. The text is the one that the library writes
- * of the sheet. Each call is made once before, so that nothing is left to the
+ * Usage: stack OWN BOOK FUGITIVE SHEET BUNDLE, five files. Prints a line for each
+ * function: its name, the bytes, and its answer. The text is the one that the library
+ * writes of the sheet, and the row the one of its first line. Each call is made once before, so that nothing is left to the
  * loader, and on two colours, of which the deeper counts: a byte may be written
  * in one's colour.
  */
@@ -19,7 +19,7 @@ enum { STACK_BYTES = 1 << 18, MOST_BYTES = 1 << 16, RESULT_CELLS = 1 << 14 };
 
 typedef struct { uint8_t bytes[MOST_BYTES + 1]; size_t length; } File;
 
-static File book, fugitive, sheet, text, bundle;
+static File own, book, fugitive, sheet, text, bundle;
 static uint64_t exact[RESULT_CELLS], shown[RESULT_CELLS], outcomes[CHECKRAVEN_MOST_SHEETS];
 static uint8_t written[MOST_BYTES];
 static uint8_t *stack;
@@ -43,25 +43,27 @@ static uint64_t nothing(void)
 
 static uint64_t account(void)
 {
-    return checkraven_account(book.bytes, book.length, fugitive.bytes, fugitive.length, sheet.bytes, sheet.length, exact, RESULT_CELLS,
-                              shown, RESULT_CELLS);
+    return checkraven_account(own.bytes, own.length, book.bytes, book.length, fugitive.bytes, fugitive.length, sheet.bytes, sheet.length,
+                              exact, RESULT_CELLS, shown, RESULT_CELLS);
 }
 
 static uint64_t account_text(void)
 {
-    return checkraven_account_text(book.bytes, book.length, fugitive.bytes, fugitive.length, text.bytes, text.length, exact, RESULT_CELLS,
-                                   shown, RESULT_CELLS);
+    return checkraven_account_text(own.bytes, own.length, book.bytes, book.length, fugitive.bytes, fugitive.length, text.bytes, text.length,
+                                   exact, RESULT_CELLS, shown, RESULT_CELLS);
 }
 
 static uint64_t account_bundle(void)
 {
-    return checkraven_account_bundle(book.bytes, book.length, fugitive.bytes, fugitive.length, bundle.bytes, bundle.length,
-                                     exact, RESULT_CELLS, shown, RESULT_CELLS, outcomes, CHECKRAVEN_MOST_SHEETS);
+    return checkraven_account_bundle(own.bytes, own.length, book.bytes, book.length, fugitive.bytes, fugitive.length,
+                                     bundle.bytes, bundle.length, exact, RESULT_CELLS, shown, RESULT_CELLS,
+                                     outcomes, CHECKRAVEN_MOST_SHEETS);
 }
 
 static uint64_t report(void)
 {
-    return checkraven_report(book.bytes, book.length, fugitive.bytes, fugitive.length, sheet.bytes, sheet.length, written, sizeof written);
+    return checkraven_report(own.bytes, own.length, book.bytes, book.length, fugitive.bytes, fugitive.length, sheet.bytes, sheet.length,
+                             written, sizeof written);
 }
 
 static uint64_t sheet_from_text(void)
@@ -72,6 +74,25 @@ static uint64_t sheet_from_text(void)
 static uint64_t text_from_sheet(void)
 {
     return checkraven_text_from_sheet(sheet.bytes, sheet.length, written, sizeof written);
+}
+
+/* The first line's code at a place, of the five codes that begin it. */
+static uint64_t code(size_t place)
+{
+    const uint8_t *line = sheet.bytes + sheet.bytes[8] + 256 * sheet.bytes[9];
+    return line[2 * place] + 256 * line[2 * place + 1];
+}
+
+static uint64_t row(void)
+{
+    return checkraven_row(own.bytes, own.length, book.bytes, book.length, code(0), code(1), code(2), code(3), code(4), sheet.bytes[6],
+                          sheet.bytes[7], written, sizeof written);
+}
+
+static uint64_t row_number(void)
+{
+    return checkraven_row_number(own.bytes, own.length, book.bytes, book.length, code(0), code(1), code(2), code(3), code(4),
+                                 sheet.bytes[6], sheet.bytes[7]);
 }
 
 typedef struct { const char *name; uint64_t (*call)(void); uint64_t answer; } Entry;
@@ -118,14 +139,17 @@ int main(int count, char **words)
         {"checkraven_report", report, 0},
         {"checkraven_sheet_from_text", sheet_from_text, 0},
         {"checkraven_text_from_sheet", text_from_sheet, 0},
+        {"checkraven_row", row, 0},
+        {"checkraven_row_number", row_number, 0},
     };
     Entry empty = {"nothing", nothing, 0};
-    if (count != 5 || posix_memalign((void **)&stack, 4096, STACK_BYTES) != 0)
+    if (count != 6 || posix_memalign((void **)&stack, 4096, STACK_BYTES) != 0)
         return 1;
-    load(&book, words[1]);
-    load(&fugitive, words[2]);
-    load(&sheet, words[3]);
-    load(&bundle, words[4]);
+    load(&own, words[1]);
+    load(&book, words[2]);
+    load(&fugitive, words[3]);
+    load(&sheet, words[4]);
+    load(&bundle, words[5]);
     text.length = checkraven_text_from_sheet(sheet.bytes, sheet.length, text.bytes, sizeof text.bytes);
     size_t around = deeper(&empty);
     for (size_t i = 0; i < sizeof entries / sizeof *entries; i++) {

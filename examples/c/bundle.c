@@ -1,15 +1,16 @@
 /*
- * Reads a book, a fugitive table and a bundle, accounts for all sheets of the
- * bundle in one call and prints the outcome of each:
- *   bundle BOOK FUGITIVE BUNDLE
- * A file that isn't there counts as empty.
+ * Reads a works' own book, the published book, a fugitive table and a bundle,
+ * accounts for all sheets of the bundle in one call and prints the outcome of each:
+ *   bundle OWN BOOK FUGITIVE BUNDLE
+ * An own book that isn't there counts as one without rows, another file as empty.
  */
 #include "shared.h"
 
 /* Room for 16 sheets of 128 lines. */
 #define CELLS (CHECKRAVEN_MOST_SHEETS * CHECKRAVEN_MOST_CELLS)
 
-static uint8_t book[ROOM_FOR_A_FILE], fugitive[ROOM_FOR_A_FILE], bundle[ROOM_FOR_A_FILE];
+static uint8_t own[ROOM_FOR_A_FILE], book[ROOM_FOR_A_FILE];
+static uint8_t fugitive[ROOM_FOR_A_FILE], bundle[ROOM_FOR_A_FILE];
 static uint64_t exact[CELLS], shown[CELLS], outcomes[CHECKRAVEN_MOST_SHEETS];
 
 static uint32_t number_at(const uint8_t *b)
@@ -19,15 +20,16 @@ static uint32_t number_at(const uint8_t *b)
 
 int main(int count, char **words)
 {
-    if (count != 4) {
-        fprintf(stderr, "usage: %s BOOK FUGITIVE BUNDLE\n", words[0]);
+    if (count != 5) {
+        fprintf(stderr, "usage: %s OWN BOOK FUGITIVE BUNDLE\n", words[0]);
         return 2;
     }
-    size_t book_len = read_file(words[1], book);
-    size_t fugitive_len = read_file(words[2], fugitive);
-    size_t bundle_len = read_file(words[3], bundle);
-    uint64_t answer = checkraven_account_bundle(book, book_len, fugitive, fugitive_len,
-                                                bundle, bundle_len,
+    size_t own_len = read_own(words[1], own);
+    size_t book_len = read_file(words[2], book);
+    size_t fugitive_len = read_file(words[3], fugitive);
+    size_t bundle_len = read_file(words[4], bundle);
+    uint64_t answer = checkraven_account_bundle(own, own_len, book, book_len,
+                                                fugitive, fugitive_len, bundle, bundle_len,
                                                 exact, CELLS, shown, CELLS,
                                                 outcomes, CHECKRAVEN_MOST_SHEETS);
     if (answer != CHECKRAVEN_ACCEPTED) {

@@ -1,25 +1,10 @@
-/* What all examples need: reading a file, and printing a sheet's outcome. */
+/* What the examples that account need: reading a file, and printing a sheet's outcome. */
 #ifndef SHARED_H
 #define SHARED_H
 
-#include "checkraven.h"
+#include "files.h"
 
 #include <inttypes.h>
-#include <stdio.h>
-
-/* One byte more than the limit, so that a longer file is still refused. */
-#define ROOM_FOR_A_FILE 65537
-
-/* A file that isn't there counts as empty. */
-static size_t read_file(const char *path, uint8_t *bytes)
-{
-    FILE *file = fopen(path, "rb");
-    if (file == NULL)
-        return 0;
-    size_t length = fread(bytes, 1, ROOM_FOR_A_FILE, file);
-    fclose(file);
-    return length;
-}
 
 static void print_refusal(uint64_t answer)
 {

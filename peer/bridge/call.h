@@ -7,10 +7,13 @@
 
 #include <stdint.h>
 
-enum function { ACCOUNT, ACCOUNT_BUNDLE, REPORT, SHEET_FROM_TEXT, TEXT_FROM_SHEET, ACCOUNT_TEXT };
+enum function { ACCOUNT, ACCOUNT_BUNDLE, REPORT, SHEET_FROM_TEXT, TEXT_FROM_SHEET, ACCOUNT_TEXT, ROW, ROW_NUMBER };
 
-/* A book, a fugitive table, a bundle, two results and the outcomes. */
-#define MOST_PARTS 6
+/* Two books, a fugitive table, a bundle, two results and the outcomes. */
+#define MOST_PARTS 7
+
+/* Industry, product, material, process, scale, medium and pollutant of a row. */
+#define NUMBERS 7
 
 /* The address of a part differs from the caller's by a multiple of this, so that a part that stands at an odd address does so there too. */
 #define ADDRESS_STEP 16
@@ -21,6 +24,7 @@ struct call {
     uint64_t files; /* so many of the parts, the first ones, are lent for reading alone */
     uint64_t length[MOST_PARTS];  /* in bytes */
     uint64_t address[MOST_PARTS]; /* modulo ADDRESS_STEP */
+    uint64_t number[NUMBERS];     /* of the row that is asked for */
 };
 
 struct answer {

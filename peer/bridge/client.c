@@ -124,14 +124,18 @@ static uint64_t receive_answer(const struct server *server, struct call call, co
     return answer.answer;
 }
 
-static uint64_t carry(enum function function, size_t files, size_t count, const struct part *parts)
+static uint64_t carry_call(struct call call, const struct part *parts)
 {
-    struct call call = { .function = function, .parts = count, .files = files };
     struct server *server = take_server();
     send_call(server, call, parts);
     uint64_t answer = receive_answer(server, call, parts);
     give_back(server);
     return answer;
+}
+
+static uint64_t carry(enum function function, size_t files, size_t count, const struct part *parts)
+{
+    return carry_call((struct call){ .function = function, .parts = count, .files = files }, parts);
 }
 
 static struct part file(const uint8_t *bytes, size_t length)
@@ -144,31 +148,32 @@ static struct part cells(uint64_t *cells, size_t count)
     return (struct part){ (uint8_t *)cells, count * sizeof *cells };
 }
 
-uint64_t checkraven_account(const uint8_t *book, size_t book_len, const uint8_t *fugitive, size_t fugitive_len,
-                            const uint8_t *sheet, size_t sheet_len,
+uint64_t checkraven_account(const uint8_t *own, size_t own_len, const uint8_t *book, size_t book_len,
+                            const uint8_t *fugitive, size_t fugitive_len, const uint8_t *sheet, size_t sheet_len,
                             uint64_t *exact, size_t exact_len, uint64_t *shown, size_t shown_len)
 {
-    struct part parts[] = { file(book, book_len), file(fugitive, fugitive_len), file(sheet, sheet_len),
+    struct part parts[] = { file(own, own_len), file(book, book_len), file(fugitive, fugitive_len), file(sheet, sheet_len),
                             cells(exact, exact_len), cells(shown, shown_len) };
-    return carry(ACCOUNT, 3, 5, parts);
+    return carry(ACCOUNT, 4, 6, parts);
 }
 
-uint64_t checkraven_account_bundle(const uint8_t *book, size_t book_len, const uint8_t *fugitive, size_t fugitive_len,
-                                   const uint8_t *bundle, size_t bundle_len,
+uint64_t checkraven_account_bundle(const uint8_t *own, size_t own_len, const uint8_t *book, size_t book_len,
+                                   const uint8_t *fugitive, size_t fugitive_len, const uint8_t *bundle, size_t bundle_len,
                                    uint64_t *exact, size_t exact_len, uint64_t *shown, size_t shown_len,
                                    uint64_t *outcomes, size_t outcomes_len)
 {
-    struct part parts[] = { file(book, book_len), file(fugitive, fugitive_len), file(bundle, bundle_len),
+    struct part parts[] = { file(own, own_len), file(book, book_len), file(fugitive, fugitive_len), file(bundle, bundle_len),
                             cells(exact, exact_len), cells(shown, shown_len), cells(outcomes, outcomes_len) };
-    return carry(ACCOUNT_BUNDLE, 3, 6, parts);
+    return carry(ACCOUNT_BUNDLE, 4, 7, parts);
 }
 
-uint64_t checkraven_report(const uint8_t *book, size_t book_len, const uint8_t *fugitive, size_t fugitive_len,
-                           const uint8_t *sheet, size_t sheet_len,
+uint64_t checkraven_report(const uint8_t *own, size_t own_len, const uint8_t *book, size_t book_len,
+                           const uint8_t *fugitive, size_t fugitive_len, const uint8_t *sheet, size_t sheet_len,
                            uint8_t *text, size_t text_len)
 {
-    struct part parts[] = { file(book, book_len), file(fugitive, fugitive_len), file(sheet, sheet_len), { text, text_len } };
-    return carry(REPORT, 3, 4, parts);
+    struct part parts[] = { file(own, own_len), file(book, book_len), file(fugitive, fugitive_len), file(sheet, sheet_len),
+                            { text, text_len } };
+    return carry(REPORT, 4, 5, parts);
 }
 
 uint64_t checkraven_sheet_from_text(const uint8_t *text, size_t text_len, uint8_t *sheet, size_t sheet_len)
@@ -183,11 +188,31 @@ uint64_t checkraven_text_from_sheet(const uint8_t *sheet, size_t sheet_len, uint
     return carry(TEXT_FROM_SHEET, 1, 2, parts);
 }
 
-uint64_t checkraven_account_text(const uint8_t *book, size_t book_len, const uint8_t *fugitive, size_t fugitive_len,
-                                 const uint8_t *text, size_t text_len,
+uint64_t checkraven_account_text(const uint8_t *own, size_t own_len, const uint8_t *book, size_t book_len,
+                                 const uint8_t *fugitive, size_t fugitive_len, const uint8_t *text, size_t text_len,
                                  uint64_t *exact, size_t exact_len, uint64_t *shown, size_t shown_len)
 {
-    struct part parts[] = { file(book, book_len), file(fugitive, fugitive_len), file(text, text_len),
+    struct part parts[] = { file(own, own_len), file(book, book_len), file(fugitive, fugitive_len), file(text, text_len),
                             cells(exact, exact_len), cells(shown, shown_len) };
-    return carry(ACCOUNT_TEXT, 3, 5, parts);
+    return carry(ACCOUNT_TEXT, 4, 6, parts);
+}
+
+uint64_t checkraven_row(const uint8_t *own, size_t own_len, const uint8_t *book, size_t book_len, uint64_t industry, uint64_t product,
+                        uint64_t material, uint64_t process, uint64_t scale, uint64_t medium, uint64_t pollutant,
+                        uint8_t *row, size_t row_len)
+{
+    struct part parts[] = { file(own, own_len), file(book, book_len), { row, row_len } };
+    struct call call = { .function = ROW, .parts = 3, .files = 2,
+                         .number = { industry, product, material, process, scale, medium, pollutant } };
+    return carry_call(call, parts);
+}
+
+uint64_t checkraven_row_number(const uint8_t *own, size_t own_len, const uint8_t *book, size_t book_len, uint64_t industry,
+                               uint64_t product, uint64_t material, uint64_t process, uint64_t scale, uint64_t medium,
+                               uint64_t pollutant)
+{
+    struct part parts[] = { file(own, own_len), file(book, book_len) };
+    struct call call = { .function = ROW_NUMBER, .parts = 2, .files = 2,
+                         .number = { industry, product, material, process, scale, medium, pollutant } };
+    return carry_call(call, parts);
 }

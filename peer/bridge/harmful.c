@@ -1,11 +1,12 @@
 /*
- * A library that does harm, for the test of the bridge: each function but the last touches what it must not, in a way of its own.
+ * A library that does harm, for the test of the bridge: each function but the last three touches what it must not, in a way of its own.
  */
 #include "checkraven.h"
 
 #define UNUSED __attribute__((unused))
 
-uint64_t checkraven_account(UNUSED const uint8_t *book, UNUSED size_t book_len, UNUSED const uint8_t *fugitive,
+uint64_t checkraven_account(UNUSED const uint8_t *own, UNUSED size_t own_len, UNUSED const uint8_t *book,
+                            UNUSED size_t book_len, UNUSED const uint8_t *fugitive,
                             UNUSED size_t fugitive_len, UNUSED const uint8_t *sheet, UNUSED size_t sheet_len,
                             uint64_t *exact, size_t exact_len, UNUSED uint64_t *shown, UNUSED size_t shown_len)
 {
@@ -13,7 +14,8 @@ uint64_t checkraven_account(UNUSED const uint8_t *book, UNUSED size_t book_len, 
     return 0;
 }
 
-uint64_t checkraven_account_bundle(UNUSED const uint8_t *book, UNUSED size_t book_len, UNUSED const uint8_t *fugitive,
+uint64_t checkraven_account_bundle(UNUSED const uint8_t *own, UNUSED size_t own_len, UNUSED const uint8_t *book,
+                                   UNUSED size_t book_len, UNUSED const uint8_t *fugitive,
                                    UNUSED size_t fugitive_len, UNUSED const uint8_t *bundle, UNUSED size_t bundle_len,
                                    UNUSED uint64_t *exact, UNUSED size_t exact_len, UNUSED uint64_t *shown, UNUSED size_t shown_len,
                                    uint64_t *outcomes, size_t outcomes_len)
@@ -22,7 +24,8 @@ uint64_t checkraven_account_bundle(UNUSED const uint8_t *book, UNUSED size_t boo
     return 0;
 }
 
-uint64_t checkraven_report(UNUSED const uint8_t *book, UNUSED size_t book_len, UNUSED const uint8_t *fugitive,
+uint64_t checkraven_report(UNUSED const uint8_t *own, UNUSED size_t own_len, UNUSED const uint8_t *book,
+                           UNUSED size_t book_len, UNUSED const uint8_t *fugitive,
                            UNUSED size_t fugitive_len, UNUSED const uint8_t *sheet, UNUSED size_t sheet_len, uint8_t *text,
                            UNUSED size_t text_len)
 {
@@ -42,7 +45,8 @@ uint64_t checkraven_text_from_sheet(UNUSED const uint8_t *sheet, UNUSED size_t s
 }
 
 /* The answer is where the files stand, modulo 16; both results are filled. */
-uint64_t checkraven_account_text(const uint8_t *book, UNUSED size_t book_len, const uint8_t *fugitive, UNUSED size_t fugitive_len,
+uint64_t checkraven_account_text(const uint8_t *own, UNUSED size_t own_len, const uint8_t *book, UNUSED size_t book_len,
+                                 const uint8_t *fugitive, UNUSED size_t fugitive_len,
                                  const uint8_t *text, UNUSED size_t text_len,
                                  uint64_t *exact, size_t exact_len, uint64_t *shown, size_t shown_len)
 {
@@ -50,5 +54,26 @@ uint64_t checkraven_account_text(const uint8_t *book, UNUSED size_t book_len, co
         exact[i] += i;
     for (size_t i = 0; i < shown_len; i++)
         shown[i] += 2 * i;
-    return (uintptr_t)book % 16 * 256 + (uintptr_t)fugitive % 16 * 16 + (uintptr_t)text % 16;
+    return (uintptr_t)own % 16 * 4096 + (uintptr_t)book % 16 * 256 + (uintptr_t)fugitive % 16 * 16 + (uintptr_t)text % 16;
+}
+
+/* Where both books stand, modulo 16, then the numbers as decimal digits. */
+uint64_t checkraven_row_number(const uint8_t *own, UNUSED size_t own_len, const uint8_t *book, UNUSED size_t book_len, uint64_t industry,
+                               uint64_t product, uint64_t material, uint64_t process, uint64_t scale, uint64_t medium,
+                               uint64_t pollutant)
+{
+    const uint64_t digits[] = { industry, product, material, process, scale, medium, pollutant };
+    uint64_t answer = (uintptr_t)own % 16 * 16 + (uintptr_t)book % 16;
+    for (size_t i = 0; i < sizeof digits / sizeof *digits; i++)
+        answer = 10 * answer + digits[i];
+    return answer;
+}
+
+/* The same; the last lent byte rises by 1. */
+uint64_t checkraven_row(const uint8_t *own, size_t own_len, const uint8_t *book, size_t book_len, uint64_t industry, uint64_t product,
+                        uint64_t material, uint64_t process, uint64_t scale, uint64_t medium, uint64_t pollutant,
+                        uint8_t *row, size_t row_len)
+{
+    row[row_len - 1]++;
+    return checkraven_row_number(own, own_len, book, book_len, industry, product, material, process, scale, medium, pollutant);
 }

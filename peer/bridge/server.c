@@ -107,22 +107,29 @@ static size_t count(size_t part)
 
 static uint64_t make_call(void)
 {
-    const uint64_t *length = call.length;
+    const uint64_t *length = call.length, *number = call.number;
     switch (call.function) {
     case ACCOUNT:
-        return checkraven_account(bytes(0), length[0], bytes(1), length[1], bytes(2), length[2], cells(3), count(3), cells(4), count(4));
+        return checkraven_account(bytes(0), length[0], bytes(1), length[1], bytes(2), length[2], bytes(3), length[3],
+                                  cells(4), count(4), cells(5), count(5));
     case ACCOUNT_BUNDLE:
-        return checkraven_account_bundle(bytes(0), length[0], bytes(1), length[1], bytes(2), length[2], cells(3), count(3),
-                                         cells(4), count(4), cells(5), count(5));
+        return checkraven_account_bundle(bytes(0), length[0], bytes(1), length[1], bytes(2), length[2], bytes(3), length[3],
+                                         cells(4), count(4), cells(5), count(5), cells(6), count(6));
     case REPORT:
-        return checkraven_report(bytes(0), length[0], bytes(1), length[1], bytes(2), length[2], bytes(3), length[3]);
+        return checkraven_report(bytes(0), length[0], bytes(1), length[1], bytes(2), length[2], bytes(3), length[3], bytes(4), length[4]);
     case SHEET_FROM_TEXT:
         return checkraven_sheet_from_text(bytes(0), length[0], bytes(1), length[1]);
     case TEXT_FROM_SHEET:
         return checkraven_text_from_sheet(bytes(0), length[0], bytes(1), length[1]);
     case ACCOUNT_TEXT:
-        return checkraven_account_text(bytes(0), length[0], bytes(1), length[1], bytes(2), length[2], cells(3), count(3),
-                                       cells(4), count(4));
+        return checkraven_account_text(bytes(0), length[0], bytes(1), length[1], bytes(2), length[2], bytes(3), length[3],
+                                       cells(4), count(4), cells(5), count(5));
+    case ROW:
+        return checkraven_row(bytes(0), length[0], bytes(1), length[1], number[0], number[1], number[2], number[3], number[4], number[5],
+                              number[6], bytes(2), length[2]);
+    case ROW_NUMBER:
+        return checkraven_row_number(bytes(0), length[0], bytes(1), length[1], number[0], number[1], number[2], number[3], number[4],
+                                     number[5], number[6]);
     default:
         exit(1);
     }

@@ -3,9 +3,11 @@
 //! the proved desk, the others by the mistake they are named for. A number in
 //! the text must stand in a table of its section.
 
+use checkraven::NO_OWN;
 use peer::compare::{run_proved, Case, Filled};
 use peer::make::dust::{FACTORS, GAS, PARTICULATES};
 use peer::make::{Book, Entry, Fugitive, Line, Row, Sheet, Technique};
+use std::path::Path;
 
 const PAGE: &str = include_str!("../../docs/COURSE.md");
 const MEDIA: [&str; 3] = ["water", "gas", "solids"];
@@ -303,9 +305,37 @@ fn a_spoiled_page_is_noticed() {
         ),
         ("| through the filter |", "| through a filter |"),
         ("| good | good | good |", "| good | good | middle |"),
+        ("| 4,425,000 | 98.6 % | 7,020 |", "| 4,425,000 | 97 % | 7,020 |"),
+        ("Filed are 240,057 units", "Filed are 276,676 units"),
         ("## What the desk", "| Worked by | Removed |\n|---|---|\n\n## What the desk"),
     ] {
         assert!(PAGE.contains(right), "{right} isn't on the page");
         assert!(!faults(&PAGE.replace(right, wrong)).is_empty(), "{wrong} isn't noticed");
+    }
+}
+
+/// The row that the desk gives for one kilogram from the large kiln of the example,
+/// under the page's heads from Generated on.
+fn large_kiln(example: Case, efficiency: &str) -> String {
+    let line = Line { place: [3140, 15, 15, 1], scale: 2, ..Line::direct(1) };
+    let line = line.treated(1, 1, [7020.0, 7200.0, 0.0]);
+    let sheet = Sheet::new(GAS, PARTICULATES, 1, vec![line]).bytes();
+    let exact = run_proved(&Case { sheet, ..example }).expect("memory is kept").exact;
+    let [generated, removed, _, discharged] = [0, 1, 2, 3].map(|at| grouped(exact[at] as f64));
+    format!("| {generated} | {efficiency} | 7,020 | 7,200 | {removed} | {discharged} |")
+}
+
+/// The rows on the works' own factors are those of the example's two books, and of
+/// its published one alone.
+#[test]
+fn the_kiln_on_the_page_is_the_example() {
+    let folder = concat!(env!("CARGO_MANIFEST_DIR"), "/../examples/own-kiln");
+    let example = Case::read(Path::new(folder)).expect("the example is there");
+    let published = example.clone().with_own(NO_OWN.to_vec());
+    for (name, row) in [
+        ("desk, with the own book", large_kiln(example, "98.6 %")),
+        ("desk, without the own book", large_kiln(published, "97 %")),
+    ] {
+        assert!(PAGE.contains(&format!("| {name} {row}")), "{name} {row}");
     }
 }

@@ -1,7 +1,7 @@
 //! The example folders: each expected output stands beside both desks.
 
-use checkraven::Outcome;
-use peer::compare::{run_proved, BundleCase, Case, Filled, Tally, TextCase};
+use checkraven::{Outcome, NO_OWN};
+use peer::compare::{run_plain, run_proved, BundleCase, Case, Filled, Tally, TextCase};
 use peer::demand3;
 use peer::print::whole_output;
 use std::fs;
@@ -26,6 +26,19 @@ fn every_example_has_its_fugitive_table() {
         with_dust += usize::from(has_dust(&expected_text(&folder)));
     }
     assert!(with_dust > 0, "an example has fugitive dust");
+}
+
+/// One example at least has factors of its own, which change its figures.
+#[test]
+fn an_example_has_its_own_book() {
+    let folders = folders_with("own.bin");
+    assert!(!folders.is_empty(), "an example has factors of its own");
+    for folder in folders {
+        let case = Case::read(&folder).expect("the example has its files");
+        let without = case.clone().with_own(NO_OWN.to_vec());
+        let [with, without] = [case, without].map(|case| run_plain(&case).exact);
+        assert_ne!(with, without, "{}", folder.display());
+    }
 }
 
 fn has_dust(expected: &str) -> bool {

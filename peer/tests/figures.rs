@@ -300,6 +300,8 @@ fn change(folder: &str) -> Option<Change> {
         }
         // The second entry has the scale of the first.
         "fugitive-bad-table" => change("fugitive", "fugitive.bin", 12 + 28 + 8, vec![0, 0]),
+        // The pollutant of the own book's second row.
+        "own-bad-book" => change("own-kiln", "own.bin", 16 + 24 + 11, vec![0]),
         "fugitive-in-water" => change("document-000", "sheet.bin", 16 + 56, vec![1]),
         // A book of one row and one technique has 44 bytes.
         "bundle-bad-book" => {
@@ -326,7 +328,7 @@ fn is_up_to_date(top: &Path, folder: &Path) -> bool {
         }
         bytes
     };
-    let files = ["book.bin", "fugitive.bin", "sheet.bin", "bundle.bin"];
+    let files = ["own.bin", "book.bin", "fugitive.bin", "sheet.bin", "bundle.bin"];
     files.iter().all(|file| read(folder, file) == changed(file))
 }
 

@@ -492,7 +492,8 @@ fn tables_at_every_address() {
         area[lent.clone()].copy_from_slice(&case.fugitive);
         let (mut exact, mut shown) = ([7; 15], [8; 15]);
         let table = &area[lent];
-        let outcome = checkraven::account(&case.book, table, &case.sheet, &mut exact, &mut shown);
+        let Case { own, book, sheet, .. } = &case;
+        let outcome = checkraven::account(own, book, table, sheet, &mut exact, &mut shown);
         assert!(outcome.is_accepted());
         assert_eq!(exact[..], expected);
     }

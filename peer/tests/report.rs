@@ -31,8 +31,8 @@ fn lend(case: &Case, length: usize) -> (Option<String>, Vec<u8>) {
     let mut area = vec![MARK; length + 2 * MARGIN];
     let (begin, end) = (MARGIN, MARGIN + length);
     (0..length).for_each(|at| area[begin + at] = earlier(at));
-    let Case { book, fugitive, sheet, .. } = case;
-    let text = report_into(book, fugitive, sheet, &mut area[begin..end]).map(str::to_string);
+    let Case { own, book, fugitive, sheet, .. } = case;
+    let text = report_into(own, book, fugitive, sheet, &mut area[begin..end]).map(str::to_string);
     let around = area[..begin].iter().chain(&area[end..]);
     assert!(around.copied().all(|byte| byte == MARK), "memory around the text is kept");
     (text, area[begin..end].to_vec())
@@ -42,7 +42,7 @@ fn check(case: &Case) {
     let expected = printed(case);
     let need = expected.len();
     assert!(need <= MOST_TEXT);
-    assert_eq!(report(&case.book, &case.fugitive, &case.sheet), expected);
+    assert_eq!(report(&case.own, &case.book, &case.fugitive, &case.sheet), expected);
     for length in [need, need + 1, need + 100, MOST_TEXT + 3] {
         let (text, lent) = lend(case, length);
         assert_eq!(text.as_deref(), Some(&expected[..]));
@@ -68,7 +68,7 @@ fn every_example() {
         let case = Case::read(&folder).expect("the example has its files");
         check(&case);
         let expected = fs::read_to_string(folder.join("expected.txt")).unwrap();
-        let text = report(&case.book, &case.fugitive, &case.sheet);
+        let text = report(&case.own, &case.book, &case.fugitive, &case.sheet);
         assert_eq!(text, expected, "{}", folder.display());
     }
 }

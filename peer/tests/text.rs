@@ -225,9 +225,10 @@ fn typed_texts_on_the_desk() {
     let mut random = Random::new(66);
     let most = Size { rows: 12, techniques: 20, lines: 8 };
     for _ in 0..limited(8_000) {
-        let Case { book, fugitive, sheet, .. } = generate::case_up_to(&mut random, most);
+        let Case { own, book, fugitive, sheet, .. } = generate::case_up_to(&mut random, most);
         let text = Text::of_sheet(&sheet).typed(&mut random).bytes();
-        tally.expect_accepted(&TextCase::with_room(book, text).with_fugitive(fugitive));
+        let case = TextCase::with_room(book, text).with_own(own);
+        tally.expect_accepted(&case.with_fugitive(fugitive));
     }
 }
 

@@ -135,10 +135,10 @@ fn many_damages_on_the_desk() {
     let most = Size { rows: 8, techniques: 12, lines: 6 };
     for _ in 0..limited(20_000) {
         let case = case_up_to(&mut random, most);
-        let Case { book, fugitive, sheet, exact_len, shown_len } = case;
+        let Case { own, book, fugitive, sheet, exact_len, shown_len } = case;
         let mut text = Text::of_sheet(&sheet).typed(&mut random).bytes();
         damage_text(&mut random, &mut text);
-        tally.agree(&TextCase { book, fugitive, text, exact_len, shown_len });
+        tally.agree(&TextCase { own, book, fugitive, text, exact_len, shown_len });
     }
 }
 

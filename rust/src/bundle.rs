@@ -1,14 +1,14 @@
-//! A whole works in one call: a bundle of sheets, accounted for with one book and
+//! A whole works in one call: a bundle of sheets, accounted for with two books and
 //! one fugitive table.
 
-use crate::{desk, Outcome, Refused, Tables, MOST_CELLS};
+use crate::{desk, number_at, Outcome, Refused, Tables, MOST_CELLS};
 use std::fmt;
 use std::ops::Range;
 
 /// The most sheets in a bundle.
 pub const MOST_SHEETS: usize = 16;
 
-/// Accounts for every sheet of a bundle with one book and one fugitive table, in
+/// Accounts for every sheet of a bundle with two books and one fugitive table, in
 /// memory of the caller.
 ///
 /// If the bundle is taken, sheet `i` owns the `i`-th run of the bundle's cells
@@ -19,9 +19,10 @@ pub const MOST_SHEETS: usize = 16;
 /// sheets, keep their values.
 ///
 /// A malformed bundle, and then one whose runs or outcomes have no room, is
-/// refused as a whole, before the book, the fugitive table and the sheets are
+/// refused as a whole, before the books, the fugitive table and the sheets are
 /// looked at. All cells of both results and all outcomes are zero then.
 pub fn account_bundle(
+    own: &[u8],
     book: &[u8],
     fugitive: &[u8],
     bundle: &[u8],
@@ -29,10 +30,10 @@ pub fn account_bundle(
     shown: &mut [u64],
     outcomes: &mut [u64],
 ) -> Outcome {
-    Outcome::from_answer(desk::account_bundle(book, fugitive, bundle, exact, shown, outcomes))
+    Outcome::from_answer(desk::account_bundle(own, book, fugitive, bundle, exact, shown, outcomes))
 }
 
-/// Accounts for every sheet of a bundle with one book and one fugitive table:
+/// Accounts for every sheet of a bundle with two books and one fugitive table:
 /// what [`declare`] gives for each of them, or the refusal of the whole bundle. A
 /// sheet for which the bundle's cells per sheet are too few is refused with 3.
 ///
@@ -43,7 +44,7 @@ pub fn account_bundle(
 /// let book = std::fs::read("../examples/works-001/book.bin")?;
 /// let fugitive = std::fs::read("../examples/works-001/fugitive.bin")?;
 /// let bundle = std::fs::read("../examples/works-001/bundle.bin")?;
-/// let works = checkraven::declare_bundle(&book, &fugitive, &bundle)?;
+/// let works = checkraven::declare_bundle(&checkraven::NO_OWN, &book, &fugitive, &bundle)?;
 /// for sheet in works.sheets() {
 ///     match sheet {
 ///         Ok(tables) => println!("{} discharged", tables.total().shown.discharged),
@@ -54,11 +55,17 @@ pub fn account_bundle(
 /// ```
 ///
 /// [`declare`]: crate::declare
-pub fn declare_bundle(book: &[u8], fugitive: &[u8], bundle: &[u8]) -> Result<Works, Refused> {
+pub fn declare_bundle(
+    own: &[u8],
+    book: &[u8],
+    fugitive: &[u8],
+    bundle: &[u8],
+) -> Result<Works, Refused> {
     let most = MOST_SHEETS * MOST_CELLS;
     let (mut exact, mut shown) = (vec![0; most], vec![0; most]);
     let mut outcomes = [0; MOST_SHEETS];
-    account_bundle(book, fugitive, bundle, &mut exact, &mut shown, &mut outcomes).accepted()?;
+    account_bundle(own, book, fugitive, bundle, &mut exact, &mut shown, &mut outcomes)
+        .accepted()?;
     let tables = |(outcome, (sheet, run)): (&u64, (&[u8], Range<usize>))| {
         Outcome::from_answer(*outcome).accepted()?;
         Ok(Tables::new(sheet, exact[run.clone()].to_vec(), shown[run].to_vec()))
@@ -68,14 +75,11 @@ pub fn declare_bundle(book: &[u8], fugitive: &[u8], bundle: &[u8]) -> Result<Wor
 
 /// The sheets of a bundle that is taken, each with the cells that it owns.
 fn sheets_and_runs(bundle: &[u8]) -> impl Iterator<Item = (&[u8], Range<usize>)> {
-    let number = |at: usize| {
-        let field = bundle[at..at + 4].try_into().expect("four bytes");
-        u32::from_le_bytes(field) as usize
-    };
     // The two bytes after the number of sheets are zero.
-    let (sheets, cells) = (number(4), number(8));
+    let (sheets, cells) = (number_at(bundle, 4), number_at(bundle, 8));
     (0..sheets).map(move |index| {
-        let (offset, length) = (number(12 + 8 * index), number(16 + 8 * index));
+        let entry = 12 + 8 * index;
+        let (offset, length) = (number_at(bundle, entry), number_at(bundle, entry + 4));
         (&bundle[offset..offset + length], index * cells..(index + 1) * cells)
     })
 }

@@ -1,7 +1,11 @@
 //! The one place where the proved desk is called: all `unsafe` code is here.
 
+use crate::RowKey;
+
 extern "C" {
     fn checkraven_account(
+        own: *const u8,
+        own_len: usize,
         book: *const u8,
         book_len: usize,
         fugitive: *const u8,
@@ -15,6 +19,8 @@ extern "C" {
     ) -> u64;
 
     fn checkraven_account_bundle(
+        own: *const u8,
+        own_len: usize,
         book: *const u8,
         book_len: usize,
         fugitive: *const u8,
@@ -30,6 +36,8 @@ extern "C" {
     ) -> u64;
 
     fn checkraven_report(
+        own: *const u8,
+        own_len: usize,
         book: *const u8,
         book_len: usize,
         fugitive: *const u8,
@@ -55,6 +63,8 @@ extern "C" {
     ) -> u64;
 
     fn checkraven_account_text(
+        own: *const u8,
+        own_len: usize,
         book: *const u8,
         book_len: usize,
         fugitive: *const u8,
@@ -66,9 +76,40 @@ extern "C" {
         shown: *mut u64,
         shown_len: usize,
     ) -> u64;
+
+    fn checkraven_row(
+        own: *const u8,
+        own_len: usize,
+        book: *const u8,
+        book_len: usize,
+        industry: u64,
+        product: u64,
+        material: u64,
+        process: u64,
+        scale: u64,
+        medium: u64,
+        pollutant: u64,
+        row: *mut u8,
+        row_len: usize,
+    ) -> u64;
+
+    fn checkraven_row_number(
+        own: *const u8,
+        own_len: usize,
+        book: *const u8,
+        book_len: usize,
+        industry: u64,
+        product: u64,
+        material: u64,
+        process: u64,
+        scale: u64,
+        medium: u64,
+        pollutant: u64,
+    ) -> u64;
 }
 
 pub(crate) fn account(
+    own: &[u8],
     book: &[u8],
     fugitive: &[u8],
     sheet: &[u8],
@@ -82,6 +123,8 @@ pub(crate) fn account(
     // reads the files, writes only within the results and keeps no pointer.
     unsafe {
         checkraven_account(
+            own.as_ptr(),
+            own.len(),
             book.as_ptr(),
             book.len(),
             fugitive.as_ptr(),
@@ -97,6 +140,7 @@ pub(crate) fn account(
 }
 
 pub(crate) fn account_bundle(
+    own: &[u8],
     book: &[u8],
     fugitive: &[u8],
     bundle: &[u8],
@@ -107,6 +151,8 @@ pub(crate) fn account_bundle(
     // SAFETY: as above, with a third `&mut` slice.
     unsafe {
         checkraven_account_bundle(
+            own.as_ptr(),
+            own.len(),
             book.as_ptr(),
             book.len(),
             fugitive.as_ptr(),
@@ -123,11 +169,19 @@ pub(crate) fn account_bundle(
     }
 }
 
-pub(crate) fn report(book: &[u8], fugitive: &[u8], sheet: &[u8], text: &mut [u8]) -> u64 {
+pub(crate) fn report(
+    own: &[u8],
+    book: &[u8],
+    fugitive: &[u8],
+    sheet: &[u8],
+    text: &mut [u8],
+) -> u64 {
     // SAFETY: as above. The text is a `&mut` slice of bytes, which need not be
     // aligned, and overlaps no file.
     unsafe {
         checkraven_report(
+            own.as_ptr(),
+            own.len(),
             book.as_ptr(),
             book.len(),
             fugitive.as_ptr(),
@@ -156,6 +210,7 @@ pub(crate) fn text_from_sheet(sheet: &[u8], text: &mut [u8]) -> u64 {
 }
 
 pub(crate) fn account_text(
+    own: &[u8],
     book: &[u8],
     fugitive: &[u8],
     text: &[u8],
@@ -165,6 +220,8 @@ pub(crate) fn account_text(
     // SAFETY: as for `account`.
     unsafe {
         checkraven_account_text(
+            own.as_ptr(),
+            own.len(),
             book.as_ptr(),
             book.len(),
             fugitive.as_ptr(),
@@ -175,6 +232,47 @@ pub(crate) fn account_text(
             exact.len(),
             shown.as_mut_ptr(),
             shown.len(),
+        )
+    }
+}
+
+pub(crate) fn row(own: &[u8], book: &[u8], key: &RowKey, row: &mut [u8]) -> u64 {
+    // SAFETY: as above. The row is a `&mut` slice of bytes, which need not be
+    // aligned, and overlaps no book.
+    unsafe {
+        checkraven_row(
+            own.as_ptr(),
+            own.len(),
+            book.as_ptr(),
+            book.len(),
+            key.industry.into(),
+            key.product.into(),
+            key.material.into(),
+            key.process.into(),
+            key.scale.into(),
+            key.medium.into(),
+            key.pollutant.into(),
+            row.as_mut_ptr(),
+            row.len(),
+        )
+    }
+}
+
+pub(crate) fn row_number(own: &[u8], book: &[u8], key: &RowKey) -> u64 {
+    // SAFETY: as above. The desk reads both books and writes nothing.
+    unsafe {
+        checkraven_row_number(
+            own.as_ptr(),
+            own.len(),
+            book.as_ptr(),
+            book.len(),
+            key.industry.into(),
+            key.product.into(),
+            key.material.into(),
+            key.process.into(),
+            key.scale.into(),
+            key.medium.into(),
+            key.pollutant.into(),
         )
     }
 }

@@ -1,9 +1,10 @@
-//! The declaration desk Checkraven: from a coefficient book, a fugitive table and
-//! a sheet to two tables, exact and shown.
+//! The declaration desk Checkraven: from two coefficient books, a fugitive table
+//! and a sheet to two tables, exact and shown.
 //!
-//! A sheet is one works' year for one pollutant in one medium. The fugitive table
-//! has the factors of dust that never meets a duct; a works without such dust
-//! lends [`NO_FUGITIVE`].
+//! A sheet is one works' year for one pollutant in one medium. The works' own book
+//! has the factors that it measured itself and is asked before the published one;
+//! a works that has none lends [`NO_OWN`]. The fugitive table has the factors of
+//! dust that never meets a duct; a works without such dust lends [`NO_FUGITIVE`].
 //!
 //! The desk itself is proved; this crate lends it memory and names its answer.
 //! [`declare`] lends memory of its own and gives rows; [`account`] takes the
@@ -11,7 +12,8 @@
 //! up to 16 sheets, [`declare_text`] and [`account_text`] for a sheet that is
 //! saved as comma-separated text. [`sheet_from_text`] and [`text_from_sheet`] turn
 //! such a text into a sheet and back. [`report`] gives the text that the program
-//! prints for a sheet.
+//! prints for a sheet. [`row`] shows an inspector the row that answers, in
+//! whichever of the two books has it.
 
 use std::fmt;
 
@@ -19,12 +21,14 @@ mod bundle;
 mod desk;
 mod refusal;
 mod report;
+mod row;
 mod tables;
 mod text;
 
 pub use bundle::{account_bundle, declare_bundle, Works, MOST_SHEETS};
 pub use refusal::{Refusal, Refused};
 pub use report::{report, report_into, MOST_TEXT};
+pub use row::{row, row_into, RowKey, MOST_ROW, MOST_ROWS};
 pub use tables::{Line, Row, Tables, Total, Unit};
 pub use text::{account_text, declare_text, sheet_from_text, sheet_from_text_into};
 pub use text::{text_from_sheet, text_from_sheet_into, MOST_SHEET, MOST_SHEET_TEXT};
@@ -34,6 +38,9 @@ pub const MOST_LINES: usize = 128;
 
 /// Cells that are enough for the result of every sheet.
 pub const MOST_CELLS: usize = cells_for(MOST_LINES);
+
+/// The own book of a works that has no factors of its own: no rows.
+pub const NO_OWN: [u8; 16] = [16, 0, 0, 0, 0, 0, 0, 0, 16, 0, 0, 0, 16, 0, 0, 0];
 
 /// The fugitive table of a works without fugitive dust: no entries.
 pub const NO_FUGITIVE: [u8; 12] = [12, 0, 0, 0, 0, 0, 0, 0, 12, 0, 0, 0];
@@ -97,28 +104,47 @@ impl fmt::Display for Outcome {
     }
 }
 
-/// Accounts for one sheet with one book and one fugitive table, in memory of the
+/// How many bytes were written, which answers below 65536 say, or the refusal.
+fn written(answer: u64) -> Result<usize, Refused> {
+    match answer {
+        0..=65535 => Ok(answer as usize),
+        _ => Outcome::from_answer(answer).accepted().map(|()| 0),
+    }
+}
+
+/// The u32 at a place of a house file.
+fn number_at(file: &[u8], at: usize) -> usize {
+    let field = file[at..at + 4].try_into().expect("four bytes");
+    u32::from_le_bytes(field) as usize
+}
+
+/// Accounts for one sheet with two books and one fugitive table, in memory of the
 /// caller.
+///
+/// A line's row is searched in the works' own book for the line's scale, then
+/// there for scale 0, then in the published book likewise. The techniques of the
+/// row come from the same book.
 ///
 /// If the sheet is accepted, the first `cells_for(lines)` cells of each result
 /// hold its table and further cells keep their values. The exact table counts
 /// in units of 10 micrograms, the shown one in the sheet's whole grams,
 /// kilograms or tonnes. On refusal all cells of both results are zero.
 pub fn account(
+    own: &[u8],
     book: &[u8],
     fugitive: &[u8],
     sheet: &[u8],
     exact: &mut [u64],
     shown: &mut [u64],
 ) -> Outcome {
-    Outcome::from_answer(desk::account(book, fugitive, sheet, exact, shown))
+    Outcome::from_answer(desk::account(own, book, fugitive, sheet, exact, shown))
 }
 
-/// Accounts for one sheet with one book and one fugitive table: both tables by
+/// Accounts for one sheet with two books and one fugitive table: both tables by
 /// rows, or the refusal.
-pub fn declare(book: &[u8], fugitive: &[u8], sheet: &[u8]) -> Result<Tables, Refused> {
+pub fn declare(own: &[u8], book: &[u8], fugitive: &[u8], sheet: &[u8]) -> Result<Tables, Refused> {
     let (mut exact, mut shown) = (vec![0; MOST_CELLS], vec![0; MOST_CELLS]);
-    account(book, fugitive, sheet, &mut exact, &mut shown).accepted()?;
+    account(own, book, fugitive, sheet, &mut exact, &mut shown).accepted()?;
     Ok(Tables::new(sheet, exact, shown))
 }
 

@@ -64,7 +64,7 @@ impl Refusal {
 
     const fn entry(self) -> (u32, &'static str) {
         match self {
-            Refusal::BookMalformed => (1, "book malformed or over a limit"),
+            Refusal::BookMalformed => (1, "either book malformed or over a limit"),
             Refusal::SheetMalformed => {
                 (2, "sheet malformed, over a limit, or shown unit not 1 to 3")
             }
@@ -73,7 +73,7 @@ impl Refusal {
             }
             Refusal::ActivityTooLarge => (4, "product or material above 10^9 kg"),
             Refusal::ReuseTooLarge => (5, "reuse above 1000, in any medium"),
-            Refusal::NoRow => (6, "no row"),
+            Refusal::NoRow => (6, "no row in either book"),
             Refusal::NoTechnique => (7, "technique not in the row's list"),
             Refusal::WrongKind => (8, "reading kind doesn't go with the k rule"),
             Refusal::BadReading => (9, "a used reading is bad or over its limit"),

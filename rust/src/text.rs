@@ -8,7 +8,7 @@
 //! grades of crushing, tapping and spill. Grades that are left off at a record's
 //! end count as 0.
 
-use crate::{desk, Outcome, Refused, Tables, MOST_CELLS, MOST_LINES};
+use crate::{desk, written, Outcome, Refused, Tables, MOST_CELLS, MOST_LINES};
 use std::str;
 
 /// Bytes that are enough for the binary sheet of every text.
@@ -16,17 +16,6 @@ pub const MOST_SHEET: usize = 16 + 64 * MOST_LINES;
 
 /// Bytes that are enough for the text of every sheet: 26 for each field.
 pub const MOST_SHEET_TEXT: usize = 53_326;
-
-/// Answers below this count bytes.
-const BYTES: u64 = 65536;
-
-/// How many bytes were written, or the refusal.
-fn written(answer: u64) -> Result<usize, Refused> {
-    if answer < BYTES {
-        return Ok(answer as usize);
-    }
-    Outcome::from_answer(answer).accepted().map(|()| 0)
-}
 
 /// Writes the binary sheet of a text at the start of the lent bytes.
 ///
@@ -69,33 +58,41 @@ pub fn text_from_sheet(sheet: &[u8]) -> Result<String, Refused> {
     text_from_sheet_into(sheet, &mut text).map(str::to_string)
 }
 
-/// Accounts for one text sheet with one book and one fugitive table, in memory of
+/// Accounts for one text sheet with two books and one fugitive table, in memory of
 /// the caller.
 ///
 /// This is what [`account`](crate::account) answers and leaves for the binary
 /// sheet of the text. A malformed text is refused with 12, in the place of 2.
 pub fn account_text(
+    own: &[u8],
     book: &[u8],
     fugitive: &[u8],
     text: &[u8],
     exact: &mut [u64],
     shown: &mut [u64],
 ) -> Outcome {
-    Outcome::from_answer(desk::account_text(book, fugitive, text, exact, shown))
+    Outcome::from_answer(desk::account_text(own, book, fugitive, text, exact, shown))
 }
 
-/// Accounts for one text sheet with one book and one fugitive table: both tables
+/// Accounts for one text sheet with two books and one fugitive table: both tables
 /// by rows, or the refusal.
 ///
 /// ```
+/// use checkraven::{declare_text, NO_FUGITIVE, NO_OWN};
+///
 /// let book = std::fs::read("../examples/document-000/book.bin")?;
 /// let text = b"1,1,1\r\n3240,1,1,1,0,1,950,1,16250000,0,7920,7920,0\r\n";
-/// let tables = checkraven::declare_text(&book, &checkraven::NO_FUGITIVE, text)?;
+/// let tables = declare_text(&NO_OWN, &book, &NO_FUGITIVE, text)?;
 /// assert_eq!(tables.total().shown.discharged, 49_608);
 /// # Ok::<(), Box<dyn std::error::Error>>(())
 /// ```
-pub fn declare_text(book: &[u8], fugitive: &[u8], text: &[u8]) -> Result<Tables, Refused> {
+pub fn declare_text(
+    own: &[u8],
+    book: &[u8],
+    fugitive: &[u8],
+    text: &[u8],
+) -> Result<Tables, Refused> {
     let (mut exact, mut shown) = (vec![0; MOST_CELLS], vec![0; MOST_CELLS]);
-    account_text(book, fugitive, text, &mut exact, &mut shown).accepted()?;
+    account_text(own, book, fugitive, text, &mut exact, &mut shown).accepted()?;
     Ok(Tables::new(&sheet_from_text(text)?, exact, shown))
 }

@@ -1,7 +1,11 @@
 //! Bundles: small ones in lent slices, and the example folders by their tables.
 
+#[path = "../examples/shared/mod.rs"]
+mod shared;
+
 use checkraven::{account_bundle, declare, declare_bundle, Outcome, Refusal, Refused};
-use checkraven::{Works, MOST_CELLS, MOST_SHEETS, NO_FUGITIVE};
+use checkraven::{Works, MOST_CELLS, MOST_SHEETS, NO_FUGITIVE, NO_OWN};
+use shared::own_book;
 use std::fs;
 use std::path::{Path, PathBuf};
 
@@ -36,7 +40,7 @@ fn lend(
     shown: &mut [u64],
     outcomes: &mut [u64],
 ) -> Outcome {
-    account_bundle(&BOOK_WITHOUT_ROWS, fugitive, bundle, exact, shown, outcomes)
+    account_bundle(&NO_OWN, &BOOK_WITHOUT_ROWS, fugitive, bundle, exact, shown, outcomes)
 }
 
 #[test]
@@ -76,8 +80,8 @@ fn sheets_come_by_their_tables_and_refusals() {
     let mut unknown = sheet.clone();
     unknown[16] ^= 1; // the industry of line 1
     let bundle = bundle(11, &[&sheet, &unknown, &[], &sheet]);
-    let works = declare_bundle(&book, &NO_FUGITIVE, &bundle).unwrap();
-    let alone = |sheet| declare(&book, &NO_FUGITIVE, sheet);
+    let works = declare_bundle(&NO_OWN, &book, &NO_FUGITIVE, &bundle).unwrap();
+    let alone = |sheet| declare(&NO_OWN, &book, &NO_FUGITIVE, sheet);
     let expected = [&sheet[..], &unknown, &[], &sheet].map(alone);
     assert_eq!(works.sheets(), expected);
     let refused = |sheet: usize| works.sheets()[sheet].as_ref().unwrap_err().to_string();
@@ -87,7 +91,8 @@ fn sheets_come_by_their_tables_and_refusals() {
 #[test]
 fn a_bundle_may_state_as_many_cells_as_are_lent() {
     let book = BOOK_WITHOUT_ROWS;
-    let declared = |cells, sheets| declare_bundle(&book, &NO_FUGITIVE, &bundle(cells, sheets));
+    let declared =
+        |cells, sheets| declare_bundle(&NO_OWN, &book, &NO_FUGITIVE, &bundle(cells, sheets));
     let sheets = [&SHEET_WITHOUT_LINES[..]; MOST_SHEETS];
     let refused = |refusal| Err(Refused { refusal, line: 0 });
     let accepted =
@@ -96,7 +101,8 @@ fn a_bundle_may_state_as_many_cells_as_are_lent() {
     assert_eq!(declared(MOST_CELLS + 1, &sheets), refused(Refusal::ResultTooShort));
     assert!(accepted(declared(MOST_SHEETS * MOST_CELLS, &sheets[..1])));
     assert_eq!(declared(u32::MAX as usize, &sheets[..1]), refused(Refusal::ResultTooShort));
-    assert_eq!(declare_bundle(&book, &NO_FUGITIVE, &[]), refused(Refusal::BundleMalformed));
+    let malformed = declare_bundle(&NO_OWN, &book, &NO_FUGITIVE, &[]);
+    assert_eq!(malformed, refused(Refusal::BundleMalformed));
     assert!(declared(u32::MAX as usize, &[]).unwrap().sheets().is_empty());
 }
 
@@ -109,7 +115,8 @@ fn every_example_of_a_bundle_prints_as_the_program_prints_it() {
     for folder in folders {
         let read = |name| fs::read(folder.join(name)).unwrap();
         let [book, fugitive, bundle] = ["book.bin", "fugitive.bin", "bundle.bin"].map(read);
-        let printed = match declare_bundle(&book, &fugitive, &bundle) {
+        let own = own_book(folder.join("own.bin"));
+        let printed = match declare_bundle(&own, &book, &fugitive, &bundle) {
             Ok(works) => works.to_string(),
             Err(refused) => format!("{refused}\n"),
         };

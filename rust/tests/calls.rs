@@ -1,12 +1,12 @@
 //! The smallest calls: an empty sheet, empty files and results without room.
 
-use checkraven::{account, cells_for, Outcome, NO_FUGITIVE};
+use checkraven::{account, cells_for, Outcome, NO_FUGITIVE, NO_OWN};
 
 const BOOK_WITHOUT_ROWS: [u8; 16] = [16, 0, 0, 0, 0, 0, 0, 0, 16, 0, 0, 0, 16, 0, 0, 0];
 const SHEET_WITHOUT_LINES: [u8; 16] = [16, 0, 0, 0, 0, 0, 1, 1, 16, 0, 0, 0, 1, 0, 0, 0];
 
 fn lend(fugitive: &[u8], exact: &mut [u64], shown: &mut [u64]) -> Outcome {
-    account(&BOOK_WITHOUT_ROWS, fugitive, &SHEET_WITHOUT_LINES, exact, shown)
+    account(&NO_OWN, &BOOK_WITHOUT_ROWS, fugitive, &SHEET_WITHOUT_LINES, exact, shown)
 }
 
 #[test]
@@ -21,7 +21,7 @@ fn the_empty_sheet_has_one_row_of_zeros() {
 #[test]
 fn empty_files_are_refused_and_the_results_are_zero() {
     let (mut exact, mut shown) = ([7; 6], [8; 5]);
-    let outcome = account(&[], &[], &[], &mut exact, &mut shown);
+    let outcome = account(&[], &[], &[], &[], &mut exact, &mut shown);
     assert_eq!(outcome, Outcome::Refused { number: 1, line: 0 });
     assert_eq!((exact, shown), ([0; 6], [0; 5]));
 }

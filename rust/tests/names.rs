@@ -1,7 +1,8 @@
 //! The refusals and the constants here and in the C header: the same names, numbers
 //! and words.
 
-use checkraven::{Refusal, MOST_SHEET, MOST_SHEETS, MOST_SHEET_TEXT, MOST_TEXT, NO_FUGITIVE};
+use checkraven::{Refusal, MOST_ROW, MOST_ROWS, MOST_SHEET, MOST_SHEETS};
+use checkraven::{MOST_SHEET_TEXT, MOST_TEXT, NO_FUGITIVE, NO_OWN};
 use std::fs;
 
 fn header() -> String {
@@ -49,12 +50,17 @@ fn constants_are_those_of_the_header() {
         ("SHEET", MOST_SHEET),
         ("TEXT", MOST_TEXT),
         ("SHEET_TEXT", MOST_SHEET_TEXT),
+        ("ROWS", MOST_ROWS),
+        ("ROW", MOST_ROW),
     ];
     for (name, number) in numbers {
         let line = format!("#define CHECKRAVEN_MOST_{name} {number}\n");
         assert!(header.contains(&line), "{line}");
     }
-    let bytes = NO_FUGITIVE.map(|byte| byte.to_string()).join(", ");
-    let table = format!("uint8_t checkraven_no_fugitive[12] = {{ {bytes} }};\n");
-    assert!(header.contains(&table), "{table}");
+    for (name, file) in [("no_fugitive", &NO_FUGITIVE[..]), ("no_own", &NO_OWN)] {
+        let bytes: Vec<String> = file.iter().map(u8::to_string).collect();
+        let (length, bytes) = (file.len(), bytes.join(", "));
+        let line = format!("uint8_t checkraven_{name}[{length}] = {{ {bytes} }};\n");
+        assert!(header.contains(&line), "{line}");
+    }
 }

@@ -1,7 +1,11 @@
 //! The tables by rows, on the example folders and beside the lent slices.
 
-use checkraven::NO_FUGITIVE;
+#[path = "../examples/shared/mod.rs"]
+mod shared;
+
 use checkraven::{account, cells_for, declare, Refusal, Refused, Row, Tables, Unit, MOST_CELLS};
+use checkraven::{NO_FUGITIVE, NO_OWN};
+use shared::own_book;
 use std::fs;
 use std::path::PathBuf;
 
@@ -16,23 +20,24 @@ fn folders() -> Vec<PathBuf> {
     folders
 }
 
-/// Book, fugitive table and sheet.
-fn files(folder: &str) -> [Vec<u8>; 3] {
+/// Own book, published book, fugitive table and sheet.
+fn files(folder: &str) -> [Vec<u8>; 4] {
     let path = PathBuf::from(concat!(env!("CARGO_MANIFEST_DIR"), "/../examples")).join(folder);
-    ["book.bin", "fugitive.bin", "sheet.bin"].map(|name| fs::read(path.join(name)).unwrap())
+    let read = |name| fs::read(path.join(name)).unwrap();
+    [own_book(path.join("own.bin")), read("book.bin"), read("fugitive.bin"), read("sheet.bin")]
 }
 
 fn tables(folder: &str) -> Tables {
-    let [book, fugitive, sheet] = files(folder);
-    declare(&book, &fugitive, &sheet).expect("the sheet is accepted")
+    let [own, book, fugitive, sheet] = files(folder);
+    declare(&own, &book, &fugitive, &sheet).expect("the sheet is accepted")
 }
 
 #[test]
 fn every_example_prints_as_the_program_prints_it() {
     assert!(folders().len() >= 10, "the examples are there");
     for folder in folders() {
-        let [book, fugitive, sheet] = files(folder.file_name().unwrap().to_str().unwrap());
-        let printed = match declare(&book, &fugitive, &sheet) {
+        let [own, book, fugitive, sheet] = files(folder.file_name().unwrap().to_str().unwrap());
+        let printed = match declare(&own, &book, &fugitive, &sheet) {
             Ok(tables) => tables.to_string(),
             Err(refused) => format!("{refused}\n"),
         };
@@ -43,10 +48,10 @@ fn every_example_prints_as_the_program_prints_it() {
 
 #[test]
 fn rows_are_the_cells_of_the_lent_slices() {
-    let [book, fugitive, sheet] = files("full-sheet");
+    let [own, book, fugitive, sheet] = files("full-sheet");
     let tables = tables("full-sheet");
     let (mut exact, mut shown) = ([9; MOST_CELLS], [9; MOST_CELLS]);
-    assert!(account(&book, &fugitive, &sheet, &mut exact, &mut shown).is_accepted());
+    assert!(account(&own, &book, &fugitive, &sheet, &mut exact, &mut shown).is_accepted());
     let cells = |row: Row| [row.generated, row.removed, row.reused, row.discharged, row.fugitive];
     assert_eq!(tables.lines().len(), 128);
     for (index, line) in tables.lines().enumerate() {
@@ -76,19 +81,20 @@ fn document_000_by_its_names() {
 
 #[test]
 fn an_empty_sheet_has_a_total_and_no_line() {
-    let [book, ..] = files("document-000");
-    let tables = declare(&book, &NO_FUGITIVE, &SHEET_WITHOUT_LINES).expect("the sheet is accepted");
+    let [own, book, ..] = files("document-000");
+    let declared = declare(&own, &book, &NO_FUGITIVE, &SHEET_WITHOUT_LINES);
+    let tables = declared.expect("the sheet is accepted");
     assert_eq!((tables.lines().len(), tables.unit()), (0, Unit::Tonne));
     assert_eq!((tables.total().exact, tables.total().shown), (Row::default(), Row::default()));
 }
 
 #[test]
 fn refusals_come_by_their_names() {
-    let [book, _, sheet] = files("document-000");
-    let declared = |book: &[u8], sheet: &[u8]| declare(book, &NO_FUGITIVE, sheet);
+    let [_, book, _, sheet] = files("document-000");
+    let declared = |book: &[u8], sheet: &[u8]| declare(&NO_OWN, book, &NO_FUGITIVE, sheet);
     let refused = |refusal, line| Err(Refused { refusal, line });
     assert_eq!(declared(&[], &sheet), refused(Refusal::BookMalformed, 0));
-    assert_eq!(declare(&book, &[], &[]), refused(Refusal::FugitiveMalformed, 0));
+    assert_eq!(declare(&NO_OWN, &book, &[], &[]), refused(Refusal::FugitiveMalformed, 0));
     assert_eq!(declared(&book, &[]), refused(Refusal::SheetMalformed, 0));
     let mut graded = sheet.clone();
     graded[16 + 56] = 1; // a grade in water
@@ -97,5 +103,5 @@ fn refusals_come_by_their_names() {
     unknown[16] ^= 1; // the industry of line 1
     assert_eq!(declared(&book, &unknown), refused(Refusal::NoRow, 1));
     let words = declared(&book, &unknown).unwrap_err();
-    assert_eq!(format!("{words}: {}", words.refusal), "refused 6 line 1: no row");
+    assert_eq!(format!("{words}: {}", words.refusal), "refused 6 line 1: no row in either book");
 }

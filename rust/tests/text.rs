@@ -1,9 +1,13 @@
 //! Text sheets: the smallest ones in lent bytes, and the example folders there
 //! and back.
 
+#[path = "../examples/shared/mod.rs"]
+mod shared;
+
 use checkraven::{account, account_text, declare, declare_text, Outcome, Refusal, Refused};
 use checkraven::{sheet_from_text, sheet_from_text_into, text_from_sheet, text_from_sheet_into};
-use checkraven::{MOST_CELLS, MOST_SHEET, MOST_SHEET_TEXT, NO_FUGITIVE};
+use checkraven::{MOST_CELLS, MOST_SHEET, MOST_SHEET_TEXT, NO_FUGITIVE, NO_OWN};
+use shared::own_book;
 use std::fs;
 use std::path::{Path, PathBuf};
 
@@ -81,12 +85,13 @@ fn every_example_there_and_back_is_declared_alike() {
     for folder in examples_of_a_sheet() {
         let read = |name| fs::read(folder.join(name)).unwrap();
         let [book, fugitive, sheet] = ["book.bin", "fugitive.bin", "sheet.bin"].map(read);
+        let own = own_book(folder.join("own.bin"));
         let text = text_from_sheet(&sheet).unwrap();
-        let declared = declare(&book, &fugitive, &sheet);
-        let of_text = declare_text(&book, &fugitive, text.as_bytes());
+        let declared = declare(&own, &book, &fugitive, &sheet);
+        let of_text = declare_text(&own, &book, &fugitive, text.as_bytes());
         assert_eq!(of_text, declared, "{}", folder.display());
         let again = sheet_from_text(text.as_bytes()).unwrap();
-        assert_eq!(declare(&book, &fugitive, &again), declared, "{}", folder.display());
+        assert_eq!(declare(&own, &book, &fugitive, &again), declared, "{}", folder.display());
     }
 }
 
@@ -116,7 +121,7 @@ fn the_longest_texts_and_sheets_have_room() {
 }
 
 fn lend_text(text: &[u8], exact: &mut [u64], shown: &mut [u64]) -> Outcome {
-    account_text(&BOOK_WITHOUT_ROWS, &NO_FUGITIVE, text, exact, shown)
+    account_text(&NO_OWN, &BOOK_WITHOUT_ROWS, &NO_FUGITIVE, text, exact, shown)
 }
 
 #[test]
@@ -134,23 +139,24 @@ fn cells_are_those_of_the_binary_sheet() {
     let outcome = lend_text(text.as_bytes(), &mut of_text.0, &mut of_text.1);
     assert_eq!(outcome, Outcome::Refused { number: 6, line: 1 });
     let (exact, shown) = (&mut of_sheet.0, &mut of_sheet.1);
-    let same = account(&BOOK_WITHOUT_ROWS, &NO_FUGITIVE, &sheet, exact, shown);
+    let same = account(&NO_OWN, &BOOK_WITHOUT_ROWS, &NO_FUGITIVE, &sheet, exact, shown);
     assert_eq!((outcome, of_text), (same, of_sheet));
 }
 
-/// 1, then 13, then 12, then 3.
+/// 1 for either book, then 13, then 12, then 3.
 #[test]
 fn files_are_refused_in_their_order() {
-    let refused_by = |book: &[u8], fugitive: &[u8], text: &[u8]| {
+    let refused_by = |own: &[u8], book: &[u8], fugitive: &[u8], text: &[u8]| {
         let (mut exact, mut shown) = (vec![7; 4], vec![8; 4]);
-        let outcome = account_text(book, fugitive, text, &mut exact, &mut shown);
+        let outcome = account_text(own, book, fugitive, text, &mut exact, &mut shown);
         assert!(exact.iter().chain(&shown).all(|&cell| cell == 0));
         outcome
     };
     let refused = |number| Outcome::Refused { number, line: 0 };
     let (book, text) = (BOOK_WITHOUT_ROWS, TEXT_WITHOUT_LINES.as_bytes());
-    assert_eq!(refused_by(&[], &[], b""), refused(1));
-    assert_eq!(refused_by(&book, &[], b""), refused(13));
-    assert_eq!(refused_by(&book, &NO_FUGITIVE, b""), refused(12));
-    assert_eq!(refused_by(&book, &NO_FUGITIVE, text), refused(3));
+    assert_eq!(refused_by(&[], &book, &[], b""), refused(1));
+    assert_eq!(refused_by(&NO_OWN, &[], &[], b""), refused(1));
+    assert_eq!(refused_by(&NO_OWN, &book, &[], b""), refused(13));
+    assert_eq!(refused_by(&NO_OWN, &book, &NO_FUGITIVE, b""), refused(12));
+    assert_eq!(refused_by(&NO_OWN, &book, &NO_FUGITIVE, text), refused(3));
 }

@@ -4,7 +4,7 @@ use mathlib.Core.Path.{_≡_, refl}
 use native.Mathlib.Omega.{arith}
 use Rattle.answers.specs.Answer.{fileRule, lineRule, answerNumber, answerLine, numberUnit, codeOf}
 use Rattle.answers.specs.declared.answer.FileFault.{FileFault}
-use Rattle.answers.specs.declared.answer.FileFault.the-variants.{BookMalformed, FugitiveMalformed, SheetMalformed, TextMalformed, ResultTooShort}
+use Rattle.answers.specs.declared.answer.FileFault.the-variants.{OwnBookMalformed, BookMalformed, FugitiveMalformed, SheetMalformed, TextMalformed, ResultTooShort}
 use Rattle.answers.specs.declared.answer.LineFault.{LineFault}
 use Rattle.answers.specs.declared.answer.LineFault.the-variants as line
 use Rattle.answers.specs.declared.answer.Outcome.{Outcome}
@@ -12,6 +12,7 @@ use Rattle.answers.specs.declared.answer.Outcome.the-variants.{Accepted,
 
 -- a rule's number is at least 1
 pub file-some : (k : FileFault) → 1 ≤ fileRule k
+file-some OwnBookMalformed = omega arith
 file-some BookMalformed = omega arith
 file-some FugitiveMalformed = omega arith
 file-some SheetMalformed = omega arith

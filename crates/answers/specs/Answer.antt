@@ -1,7 +1,7 @@
 -- "Refusal numbers": the desk's answer by the paper's number and line.
 use Prim.Native.Nat.{ℕ, _+_, _*_}
 use Rattle.answers.specs.declared.answer.FileFault.{FileFault}
-use Rattle.answers.specs.declared.answer.FileFault.the-variants.{BookMalformed, FugitiveMalformed, SheetMalformed}
+use Rattle.answers.specs.declared.answer.FileFault.the-variants.{OwnBookMalformed, BookMalformed, FugitiveMalformed, SheetMalformed}
 use Rattle.answers.specs.declared.answer.FileFault.the-variants.{TextMalformed, ResultTooShort}
 use Rattle.answers.specs.declared.answer.LineFault.{LineFault}
 use Rattle.answers.specs.declared.answer.LineFault.the-variants as line
@@ -9,6 +9,7 @@ use Rattle.answers.specs.declared.answer.Outcome.{Outcome}
 use Rattle.answers.specs.declared.answer.Outcome.the-variants.{Accepted, RefusedFile, RefusedLine}
 
 abbrev pub fileRule : FileFault → ℕ
+fileRule OwnBookMalformed = 1
 fileRule BookMalformed = 1
 fileRule FugitiveMalformed = 13
 fileRule SheetMalformed = 2

@@ -5,8 +5,10 @@ ghost use Rattle.answers.specs.Answer.{answerLine, answerNumber, codeOf,
 // In an answer that is one number a refusal's number is counted in these, so that the line, a u16, stands below it.
 pub const NUMBER_UNIT: u64 = 65536;
 
-// What is wrong with a whole file or a whole result, in the order in which it is looked for. A sheet is a binary one or a text.
+// What is wrong with a whole file or a whole result, in the order in which it is looked for. Rule 1 is for either book, the works' own and
+// the published one. A sheet is a binary one or a text.
 pub enum FileFault {
+    OwnBookMalformed,
     BookMalformed,
     FugitiveMalformed,
     SheetMalformed,
@@ -41,6 +43,7 @@ impl FileFault {
         ensures { λ r. ⌜ r ≡ fileRule self ⌝ }
     {
         match self {
+            FileFault::OwnBookMalformed => 1,
             FileFault::BookMalformed => 1,
             FileFault::FugitiveMalformed => 13,
             FileFault::SheetMalformed => 2,

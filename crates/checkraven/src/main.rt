@@ -1,5 +1,5 @@
-// The desk as a program: in the folder it is started in it reads `book.bin`, `fugitive.bin`, and `bundle.bin` where that is there, else
-// `sheet.bin`, else `sheet.csv`, and prints the report.
+// The desk as a program: in the folder it is started in it reads `own.bin` where that is there, `book.bin`, `fugitive.bin`, and `bundle.bin`
+// where that is there, else `sheet.bin`, else `sheet.csv`, and prints the report.
 ghost use mathlib.Core.Path.{_≡_};
 ghost use Prim.Native.Nat.{_≤_};
 ghost use lib.ListN.{length, take};
@@ -7,11 +7,13 @@ ghost use Rattle.desk.specs.Lent.{sources, lent};
 ghost use Rattle.report.specs.Report.{mostText, reportOf};
 ghost use Rattle.report.specs.Bundle.{mostBundleText, bundleReportOf};
 ghost use Rattle.report.specs.Typed.{textReportOf};
+use headers::book::NO_ROWS;
 use headers::house::MOST_BYTES;
 use libc::ENOENT;
 use libc::STDERR_FILENO;
 use libc::STDOUT_FILENO;
 use little::part::part;
+use numerals::bytes::lay;
 use report::MOST_BUNDLE_TEXT;
 use report::MOST_TEXT;
 use report::Written;
@@ -42,37 +44,59 @@ fn is_missing(file: i32) -> bool {
     }
 }
 
+// Where there is no own book the works has no factors of its own, and lends one without rows. One that is there is taken, also where it
+// cannot be read: figures by the published factors must not be declared in its place.
+fn load_own(room: &mut [u8]) -> usize {
+    let file = os::open_read(b"own.bin");
+    if is_missing(file) {
+        return lay(room, 0, &NO_ROWS);
+    }
+    load_open(file, room)
+}
+
 // The bytes of the report, which a text of that size always has room for.
-fn whole_report(book: &[u8], fugitive: &[u8], sheet: &[u8], text: &mut [u8]) -> usize
+fn whole_report(own: &[u8], book: &[u8], fugitive: &[u8], sheet: &[u8], text: &mut [u8]) -> usize
     requires { ⌜ mostText ≤ length (now text) ⌝ }
     ensures { λ r. ⌜ take r (now (text .exit))
-        ≡ reportOf (lent (sources (now (book .entry)) (now (fugitive .entry))) (now (sheet .entry))) ⌝ }
+        ≡ reportOf (lent (sources (now (own .entry)) (now (book .entry)) (now (fugitive .entry))) (now (sheet .entry))) ⌝ }
 {
-    match report(book, fugitive, sheet, text) {
+    match report(own, book, fugitive, sheet, text) {
         Written::Bytes(bytes) => bytes,
         Written::Short => 0,
     }
 }
 
 // Likewise for a sheet that was typed.
-fn whole_text_report(book: &[u8], fugitive: &[u8], typed: &[u8], text: &mut [u8]) -> usize
+fn whole_text_report(
+    own: &[u8],
+    book: &[u8],
+    fugitive: &[u8],
+    typed: &[u8],
+    text: &mut [u8],
+) -> usize
     requires { ⌜ mostText ≤ length (now text) ⌝ }
     ensures { λ r. ⌜ take r (now (text .exit))
-        ≡ textReportOf (sources (now (book .entry)) (now (fugitive .entry))) (now (typed .entry)) ⌝ }
+        ≡ textReportOf (sources (now (own .entry)) (now (book .entry)) (now (fugitive .entry))) (now (typed .entry)) ⌝ }
 {
-    match report_text(book, fugitive, typed, text) {
+    match report_text(own, book, fugitive, typed, text) {
         Written::Bytes(bytes) => bytes,
         Written::Short => 0,
     }
 }
 
 // Likewise for a bundle.
-fn whole_bundle_report(book: &[u8], fugitive: &[u8], bundle: &[u8], text: &mut [u8]) -> usize
+fn whole_bundle_report(
+    own: &[u8],
+    book: &[u8],
+    fugitive: &[u8],
+    bundle: &[u8],
+    text: &mut [u8],
+) -> usize
     requires { ⌜ mostBundleText ≤ length (now text) ⌝ }
     ensures { λ r. ⌜ take r (now (text .exit))
-        ≡ bundleReportOf (sources (now (book .entry)) (now (fugitive .entry))) (now (bundle .entry)) ⌝ }
+        ≡ bundleReportOf (sources (now (own .entry)) (now (book .entry)) (now (fugitive .entry))) (now (bundle .entry)) ⌝ }
 {
-    match report_bundle(book, fugitive, bundle, text) {
+    match report_bundle(own, book, fugitive, bundle, text) {
         Written::Bytes(bytes) => bytes,
         Written::Short => 0,
     }
@@ -90,47 +114,55 @@ fn print(text: &[u8]) {
 }
 
 // Here and below one byte more than the limit is read, so that a longer file is refused and not cut.
-fn print_sheet(book: &[u8], fugitive: &[u8], file: i32) {
+fn print_sheet(own: &[u8], book: &[u8], fugitive: &[u8], file: i32) {
     let mut sheet = [0u8; MOST_BYTES + 1];
     let sheet_bytes = load_open(file, &mut sheet);
     let mut text = [0u8; MOST_TEXT];
-    let bytes = whole_report(book, fugitive, part(&sheet, 0, sheet_bytes), &mut text);
+    let bytes = whole_report(own, book, fugitive, part(&sheet, 0, sheet_bytes), &mut text);
     print(part(&text, 0, bytes));
 }
 
-fn print_typed(book: &[u8], fugitive: &[u8], file: i32) {
+fn print_typed(own: &[u8], book: &[u8], fugitive: &[u8], file: i32) {
     let mut typed = [0u8; MOST_BYTES + 1];
     let typed_bytes = load_open(file, &mut typed);
     let mut text = [0u8; MOST_TEXT];
-    let bytes = whole_text_report(book, fugitive, part(&typed, 0, typed_bytes), &mut text);
+    let bytes = whole_text_report(own, book, fugitive, part(&typed, 0, typed_bytes), &mut text);
     print(part(&text, 0, bytes));
 }
 
 // A binary sheet that is there is taken, also where it cannot be read; and where there is no sheet at all, it counts as an empty one.
-fn print_either(book: &[u8], fugitive: &[u8]) {
+fn print_either(own: &[u8], book: &[u8], fugitive: &[u8]) {
     let file = os::open_read(b"sheet.bin");
     if is_missing(file) {
         let typed = os::open_read(b"sheet.csv");
         if is_missing(typed) {
-            print_sheet(book, fugitive, file);
+            print_sheet(own, book, fugitive, file);
         } else {
-            print_typed(book, fugitive, typed);
+            print_typed(own, book, fugitive, typed);
         }
     } else {
-        print_sheet(book, fugitive, file);
+        print_sheet(own, book, fugitive, file);
     }
 }
 
-fn print_bundle(book: &[u8], fugitive: &[u8], file: i32) {
+fn print_bundle(own: &[u8], book: &[u8], fugitive: &[u8], file: i32) {
     let mut bundle = [0u8; MOST_BYTES + 1];
     let bundle_bytes = load_open(file, &mut bundle);
     let mut text = [0u8; MOST_BUNDLE_TEXT];
-    let bytes = whole_bundle_report(book, fugitive, part(&bundle, 0, bundle_bytes), &mut text);
+    let bytes = whole_bundle_report(
+        own,
+        book,
+        fugitive,
+        part(&bundle, 0, bundle_bytes),
+        &mut text,
+    );
     print(part(&text, 0, bytes));
 }
 
 // A bundle that is there but cannot be read is refused as an empty one: the folder's sheet must not be declared in its place.
 fn main() {
+    let mut own = [0u8; MOST_BYTES + 1];
+    let own_bytes = load_own(&mut own);
     let mut book = [0u8; MOST_BYTES + 1];
     let book_bytes = load(b"book.bin", &mut book);
     let mut fugitive = [0u8; MOST_BYTES + 1];
@@ -138,11 +170,13 @@ fn main() {
     let file = os::open_read(b"bundle.bin");
     if is_missing(file) {
         print_either(
+            part(&own, 0, own_bytes),
             part(&book, 0, book_bytes),
             part(&fugitive, 0, fugitive_bytes),
         );
     } else {
         print_bundle(
+            part(&own, 0, own_bytes),
             part(&book, 0, book_bytes),
             part(&fugitive, 0, fugitive_bytes),
             file,

@@ -12,7 +12,7 @@ use Rattle.answers.proofs.LawCode.{code-zero, code-number, code-line}
 use Rattle.desk.specs.Lent.{Sources, lent}
 use Rattle.desk.specs.Book.{bookOk}
 use Rattle.desk.specs.Entries.{fugitiveOk}
-use Rattle.desk.specs.Table.{bySources}
+use Rattle.desk.specs.Table.{byPublished, bySources}
 use Rattle.desk.proofs.LawDemands.{answer-line-small}
 use Rattle.text.specs.Convert.{Made, Gives, Refuses, byRoom}
 use Rattle.text.specs.Read.{sheetOfText}
@@ -44,15 +44,17 @@ module _ (made : Made) (bytes : List ℕ) (r : ℕ) (bytes' : List ℕ) (p : Con
 
 -- a line is small: 0 where there is no sheet, else as the desk has it
 text-line-small : (from : Sources) (text : List ℕ) (room : ℕ) → answerLine (textAnswer from text room) < numberUnit
-unfolding bySources
+unfolding bySources byPublished
 text-line-small from text room = go (sheetOfText text) refl
   where
     go : (made : Made) → sheetOfText text ≡ made → answerLine (answerBy from made room) < numberUnit
     go (Gives s) e = omega (arith, answer-line-small (lent from s) room)
     go (Refuses o) e =
-        either-way (bookOk (from .book))
-        (λ p. either-way (fugitiveOk (from .fugitive)) (λ q. rw (p, q, made-refused text o e) (omega arith)) (λ q. rw (p, q) (omega arith)))
-        (λ p. rw p (omega arith))
+        either-way (bookOk (from .own))
+        (λ w. either-way (bookOk (from .book))
+        (λ p. either-way (fugitiveOk (from .fugitive)) (λ q. rw (w, p, q, made-refused text o e) (omega arith)) (λ q. rw (w, p, q) (omega arith)))
+        (λ p. rw (w, p) (omega arith)))
+        (λ w. rw w (omega arith))
 
 module _ (from : Sources) (text exact shown : List ℕ) (r : ℕ) (exact' shown' : List ℕ) (p : AccountsText from text exact shown r exact' shown') where
   abbrev answered : Outcome

@@ -2,3 +2,4 @@ pub mod LawCode
 pub mod LawTextCode
 pub mod LawBundleCode
 pub mod LawConvertCode
+pub mod LawRowCode

@@ -2,3 +2,4 @@ pub mod Code
 pub mod TextCode
 pub mod BundleCode
 pub mod ConvertCode
+pub mod RowCode

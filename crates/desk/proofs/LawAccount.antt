@@ -25,22 +25,21 @@ use Rattle.amounts.specs.declared.line.Worked.the-variants as worked
 use Rattle.settle.specs.Shown.{sum}
 use Rattle.headers.specs.Book.{techniqueBlock}
 use Rattle.desk.specs.Book.{bookOk, mostCoefficient}
-use Rattle.desk.specs.Row.{rowOf}
+use Rattle.desk.specs.Row.{RowSearch, Hit, Miss, rowOf}
+use Rattle.desk.specs.Books.{bookFor}
 use Rattle.desk.specs.Technique.{techniqueHas, techniqueIndex}
 use Rattle.shares.specs.Share.{shareBy}
 use Rattle.desk.specs.Line.{mostKilograms, lineOf}
 use Rattle.desk.specs.Dust.{unitsPerFactor, dustBy, dustOf, entryIndex}
-use Rattle.desk.specs.Lent.{Sources, Lent}
+use Rattle.desk.specs.Lent.{Lent}
 use Rattle.desk.specs.Cells.{width, cellsOf, rowFrom}
 use Rattle.desk.specs.Account.{treated, byTechnique, treatmentOf, generatedOf, inWater, byTreatment, byDust, byRow}
-use Rattle.desk.specs.Account.{excessive, misgraded, accountOf, lineOutcome}
-use Rattle.desk.specs.Inner.{Moderate, GoodRow, mostDust, SmallDust, OfDust}
+use Rattle.desk.specs.Account.{excessive, misgraded, accountIn, accountOf, lineOutcome}
+use Rattle.desk.specs.Inner.{Moderate, GoodRow, mostDust, SmallDust, OfDust, Right}
 use Rattle.desk.specs.declared.line.Line.{Line}
 use Rattle.desk.specs.declared.dust.Dust.{Dust}
 use Rattle.desk.specs.declared.dust.Dust.the-variants.{Escapes, NoEntry}
 use Rattle.desk.specs.declared.row.Row.{Row}
-use Rattle.desk.specs.declared.row.RowSearch.{RowSearch}
-use Rattle.desk.specs.declared.row.RowSearch.the-variants.{Hit, Miss}
 use Rattle.shares.specs.declared.share.Reading.{Reading}
 use Rattle.shares.specs.declared.share.Share.{Share}
 use Rattle.shares.specs.declared.share.Share.the-variants.{Part, NoShare}
@@ -51,6 +50,7 @@ use Rattle.desk.specs.declared.account.LineOutcome.the-variants.{Given, 
 use Rattle.desk.proofs.LawColumns.{Balanced}
 use Rattle.shares.proofs.LawShare.{Fair, share-fair}
 use Rattle.desk.proofs.LawRow.{hit-good}
+use Rattle.desk.proofs.LawBooks.{book-right}
 
 -- what rule 4 leaves
 pub moderate : (line : Line) → excessive line ≡ false → Moderate line
@@ -157,26 +157,26 @@ treatment-balances row line F (By e n d) small dust ok =
     let G = generatedOf row line in
     amounts-balanced (amountsOf G e n d (line .reuse) (inWater line)) F (sound G e n d (line .reuse) (inWater line) (ok e n d refl) .sum) small dust
 
-module _ (from : Sources) (good : bookOk (from .book) ≡ true) (bytes : AreBytes (from .fugitive)) (line : Line) where
+module _ (b table : List ℕ) (good : bookOk b ≡ true) (bytes : AreBytes table) (line : Line) where
   abbrev block : List ℕ
-  block = techniqueBlock (from .book)
+  block = techniqueBlock b
 
-  dust-balances : (row : Row) (dust : Dust) → rowOf (from .book) (line .key) ≡ Hit row → SmallDust dust → Moderate line → line .reuse ≤ wholeShare
+  dust-balances : (row : Row) (dust : Dust) → rowOf b (line .key) ≡ Hit row → SmallDust dust → Moderate line → line .reuse ≤ wholeShare
       → Balances (byDust block row line dust)
   dust-balances row NoEntry e small moderate reuse = tt
   dust-balances row (Escapes F) e small moderate reuse =
-      let g = hit-good (from .book) (line .key) row good e in
+      let g = hit-good b (line .key) row good e in
       treatment-balances row line F (treatmentOf block row (line .technique) (line .reading)) (generated-small row line (g .coefficient) moderate) small
       (treatment-admissible (line .reuse) reuse block row g (line .reading) (line .technique))
 
-  row-balances : (f : RowSearch) → rowOf (from .book) (line .key) ≡ f → Moderate line → line .reuse ≤ wholeShare
-      → Balances (byRow block (from .fugitive) line f)
+  row-balances : (f : RowSearch) → rowOf b (line .key) ≡ f → Moderate line → line .reuse ≤ wholeShare
+      → Balances (byRow block table line f)
   row-balances Miss e moderate reuse = tt
   row-balances (Hit row) e moderate reuse =
-      dust-balances row (dustOf (from .fugitive) line) e (dust-small (from .fugitive) line bytes (moderate .product)) moderate reuse
+      dust-balances row (dustOf table line) e (dust-small table line bytes (moderate .product)) moderate reuse
 
-  pub account-balances : Balances (accountOf from line)
-  unfolding accountOf
+  account-balances : Balances (accountIn b table line)
+  unfolding accountIn
   account-balances =
       either-way (excessive line)
       (λ p. rw p tt)
@@ -184,11 +184,13 @@ module _ (from : Sources) (good : bookOk (from .book) ≡ true) (bytes : AreByte
       (λ q. rw (p, q) tt)
       (λ q. either-way (misgraded line)
       (λ g. rw (p, q, g) tt)
-      (λ g. rw (p, q, g) (row-balances (rowOf (from .book) (line .key)) refl (moderate line p) (ltb-false wholeShare (line .reuse) q)))))
+      (λ g. rw (p, q, g) (row-balances (rowOf b (line .key)) refl (moderate line p) (ltb-false wholeShare (line .reuse) q)))))
 
-pub line-balances : (f : Lent) → bookOk (f .sources .book) ≡ true → AreBytes (f .sources .fugitive) → (i : ℕ) → Balances (lineOutcome f i)
-unfolding lineOutcome
-line-balances f good bytes i = account-balances (f .sources) good bytes (lineOf (f .sheet) i)
+pub line-balances : (f : Lent) → Right (f .sources) → AreBytes (f .sources .fugitive) → (i : ℕ) → Balances (lineOutcome f i)
+unfolding lineOutcome accountOf
+line-balances f right bytes i =
+    let line = lineOf (f .sheet) i in
+    account-balances (bookFor (f .sources) (line .key)) (f .sources .fugitive) (book-right (f .sources) (line .key) (right .own) (right .book)) bytes line
 
 -- ---- demand 2 of a line: D is not below the manual's exact value, worked from the line's own numbers, and less than two units above it
 

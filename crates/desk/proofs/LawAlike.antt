@@ -15,19 +15,18 @@ use Rattle.headers.specs.Unit.{unitOfSheet}
 use Rattle.shares.specs.Share.{shareBy}
 use Rattle.shares.specs.declared.share.Reading.{Reading}
 use Rattle.desk.specs.Lent.{Sources, lent}
-use Rattle.desk.specs.Row.{rowOf}
+use Rattle.desk.specs.Row.{RowSearch, Hit, Miss, rowOf}
+use Rattle.desk.specs.Books.{bookFor}
 use Rattle.desk.specs.Sheet.{sheetOk}
 use Rattle.desk.specs.Technique.{techniqueIndex}
 use Rattle.desk.specs.Dust.{entryIndex, dustBy, dustOf}
-use Rattle.desk.specs.Account.{byTechnique, treatmentOf, generatedOf, byTreatment, byDust, byRow, accountOf, lineOutcome}
+use Rattle.desk.specs.Account.{byTechnique, treatmentOf, generatedOf, byTreatment, byDust, byRow, accountIn, accountOf, lineOutcome}
 use Rattle.desk.specs.Table.{rows, total, tableOf, byFiles, byLines, answerOf, cellsAfter}
 use Rattle.desk.specs.Declare.{shownAfter, Declared}
 use Rattle.desk.specs.declared.line.Line.{Line}
 use Rattle.desk.specs.declared.dust.Dust.{Dust}
 use Rattle.desk.specs.declared.dust.Dust.the-variants.{Escapes, NoEntry}
 use Rattle.desk.specs.declared.row.Row.{Row}
-use Rattle.desk.specs.declared.row.RowSearch.{RowSearch}
-use Rattle.desk.specs.declared.row.RowSearch.the-variants.{Hit, Miss}
 use Rattle.desk.specs.declared.account.Treatment.{Treatment}
 use Rattle.desk.specs.declared.account.Treatment.the-variants.{By, NoTreatment}
 use Rattle.desk.specs.declared.account.LineOutcome.{LineOutcome}
@@ -82,26 +81,32 @@ module _ (t : List ℕ) (row : Row) (one other : Reading) where
       (λ z. rw z)
       (λ z. rw (z, technique-alike (alike (eqb-false technique 0 z)) (techniqueIndex t (row .first) (row .techniques) technique)))
 
-module _ (from : Sources) (line : Line) (one other : Reading)
-    (alike : (row : Row) → rowOf (from .book) (line .key) ≡ Hit row → (line .technique ≡ 0 → ⊥) → shareBy one (row .rule) ≡ shareBy other (row .rule)) where
+module _ (b f : List ℕ) (line : Line) (one other : Reading)
+    (alike : (row : Row) → rowOf b (line .key) ≡ Hit row → (line .technique ≡ 0 → ⊥) → shareBy one (row .rule) ≡ shareBy other (row .rule)) where
   abbrev block : List ℕ
-  block = techniqueBlock (from .book)
+  block = techniqueBlock b
 
-  escaped-alike : (row : Row) → rowOf (from .book) (line .key) ≡ Hit row → (dust : Dust)
+  escaped-alike : (row : Row) → rowOf b (line .key) ≡ Hit row → (dust : Dust)
       → byDust block row (withReading line one) dust ≡ byDust block row (withReading line other) dust
   escaped-alike row e NoEntry = refl
   escaped-alike row e (Escapes F) =
       let same = treatment-alike block row one other (line .technique) (alike row e) in
       rw (same, made-alike row line one other F (treatmentOf block row (line .technique) other))
 
-  row-alike : (found : RowSearch) → rowOf (from .book) (line .key) ≡ found
-      → byRow block (from .fugitive) (withReading line one) found ≡ byRow block (from .fugitive) (withReading line other) found
+  row-alike : (found : RowSearch) → rowOf b (line .key) ≡ found
+      → byRow block f (withReading line one) found ≡ byRow block f (withReading line other) found
   row-alike Miss e = refl
-  row-alike (Hit row) e = rw (dust-alike (from .fugitive) line one other, escaped-alike row e (dustOf (from .fugitive) (withReading line other)))
+  row-alike (Hit row) e = rw (dust-alike f line one other, escaped-alike row e (dustOf f (withReading line other)))
 
-  pub account-alike : accountOf from (withReading line one) ≡ accountOf from (withReading line other)
-  unfolding accountOf
-  account-alike = rw (row-alike (rowOf (from .book) (line .key)) refl)
+  one-book-alike : accountIn b f (withReading line one) ≡ accountIn b f (withReading line other)
+  unfolding accountIn
+  one-book-alike = rw (row-alike (rowOf b (line .key)) refl)
+
+pub account-alike : (from : Sources) (line : Line) (one other : Reading) → let book = bookFor from (line .key) in
+    ((row : Row) → rowOf book (line .key) ≡ Hit row → (line .technique ≡ 0 → ⊥) → shareBy one (row .rule) ≡ shareBy other (row .rule))
+    → accountOf from (withReading line one) ≡ accountOf from (withReading line other)
+unfolding accountOf
+account-alike from line one other alike = one-book-alike (bookFor from (line .key)) (from .fugitive) line one other alike
 
 -- ---- lines that answer alike
 
@@ -116,11 +121,11 @@ module _ (l m : ℕ → LineOutcome) where
   total-alike zero each = refl
   total-alike (suc n) each = rw (total-alike n (λ i h. each i (omega arith)), each n (omega arith))
 
-  table-alike : (n : ℕ) → ((i : ℕ) → i < n → l i ≡ m i) → tableOf n l ≡ tableOf n m
+  pub table-alike : (n : ℕ) → ((i : ℕ) → i < n → l i ≡ m i) → tableOf n l ≡ tableOf n m
   unfolding tableOf
   table-alike n each = rw (rows-alike n each, total-alike n each)
 
-  lines-alike : (n : ℕ) → ((i : ℕ) → i < n → l i ≡ m i) → byLines n l ≡ byLines n m
+  pub lines-alike : (n : ℕ) → ((i : ℕ) → i < n → l i ≡ m i) → byLines n l ≡ byLines n m
   unfolding byLines
   lines-alike zero each = refl
   lines-alike (suc n) each = rw (lines-alike n (λ i h. each i (omega arith)), each n (omega arith))

@@ -14,7 +14,7 @@ use Rattle.search.specs.Test.{all}
 use Rattle.search.proofs.LawTest.{either-way, and-left, and-right, all-at, every-at}
 use Rattle.search.proofs.LawCut.{rising}
 use Rattle.headers.specs.House.{fileOk}
-use Rattle.headers.specs.Book.{bookHeader, bookFits, rowCount, techniqueCount, mostTechniques, techniqueSize, bookHeaderOk, techniqueBlock}
+use Rattle.headers.specs.Book.{bookHeader, bookFits, rowCount, techniqueCount, mostRows, mostTechniques, techniqueSize, bookHeaderOk, techniqueBlock}
 use Rattle.desk.specs.Book.{techniqueCode, techniqueEfficiency, techniqueOk, techniquesOk, rowStart, fieldsAt, fieldsOk, mostCoefficient, coefficientAt}
 use Rattle.desk.specs.Book.{rowOk, rowsOk, bookOk}
 use Rattle.headers.specs.Sheet.{sheetHeader, sheetHeaderSize, sheetFits, sheetHeaderOk, lineSize, lineCount}
@@ -57,6 +57,7 @@ unfolding fileOk
 file-whole file origin header h = eqb-true (u32At file origin) (length file) (every-at _ h 2)
 
 pub record Lies (b : List ℕ) : Type 0 where
+  pub rowsFew : rowCount b ≤ mostRows
   pub few : techniqueCount b ≤ mostTechniques
   pub rows : bookHeader b .rowOffset + 24 * rowCount b ≤ bookHeader b .techniqueOffset
   pub techniques : bookHeader b .techniqueOffset + techniqueSize * techniqueCount b ≤ length b
@@ -70,6 +71,7 @@ header-lies b h =
     let whole : u32At b 0 ≡ length b = file-whole b (header .origin) (header .size) (and-left file (bookFits header) h) in
     let last = leb-true (header .techniqueOffset + techniqueSize * header .techniques) (header .length) (every-at _ fits 4) in
     record {
+      rowsFew = leb-true (header .rows) mostRows (every-at _ fits 0);
       few = leb-true (header .techniques) mostTechniques (every-at _ fits 1);
       rows = leb-true (header .rowOffset + header .rowSize * header .rows) (header .techniqueOffset) (every-at _ fits 3);
       techniques = omega (arith, whole, last);
@@ -109,12 +111,21 @@ pub right-entry-in : (f : List ℕ) → fugitiveOk f ≡ true → (i : ℕ) → 
 unfolding fugitiveOk
 right-entry-in f right i l = entry-in f (and-left (fugitiveHeaderOk f) (entriesOk f) right) i l
 
+-- a book without rows is its header
+pub header-alone : (b : List ℕ) → bookHeaderOk b ≡ true → rowCount b ≡ 0 → bookOk b ≡ true
+unfolding bookOk all
+header-alone b header none = rw (header, none)
+
 -- ---- rows of a good book
 
 module _ (b : List ℕ) (good : bookOk b ≡ true) where
   pub good-row-in : (i : ℕ) → i < rowCount b → RowIn b (rowStart b i)
   unfolding bookOk
   good-row-in i l = row-in b (and-left (bookHeaderOk b) (rowsOk b) good) i l
+
+  pub rows-few : rowCount b ≤ mostRows
+  unfolding bookOk
+  rows-few = header-lies b (and-left (bookHeaderOk b) (rowsOk b) good) .rowsFew
 
   pub row-good : (i : ℕ) → i < rowCount b → rowOk b (techniqueBlock b) i ≡ true
   unfolding bookOk

@@ -19,7 +19,6 @@ use Rattle.settle.specs.declared.Settled.{Settled}
 use Rattle.settle.proofs.LawAnswer.{showing}
 use Rattle.settle.proofs.LawShown.{shown-length, shown-law, shown-more}
 use Rattle.desk.specs.Lent.{Lent}
-use Rattle.desk.specs.Book.{bookOk}
 use Rattle.headers.specs.Sheet.{sheetHeader, lineCount, mostLines}
 use Rattle.desk.specs.Sheet.{sheetOk}
 use Rattle.desk.specs.Account.{lineOutcome}
@@ -28,7 +27,7 @@ use Rattle.desk.specs.Table.{rowGiven, rows, total, tableOf, cellsAfter}
 use Rattle.headers.specs.Unit.{gram, kilogram, tonne, unitOf, unitOfSheet}
 use Rattle.desk.specs.Demands.{tableGrid, Demand3}
 use Rattle.desk.specs.Declare.{shownAfter, BothAfter}
-use Rattle.desk.specs.Inner.{Showable, shownOver}
+use Rattle.desk.specs.Inner.{Right, Showable, shownOver}
 use Rattle.answers.specs.declared.answer.Outcome.{Outcome}
 use Rattle.answers.specs.declared.answer.Outcome.the-variants.{Accepted, RefusedFile, RefusedLine}
 use Rattle.desk.specs.declared.account.LineOutcome.{LineOutcome}
@@ -155,7 +154,7 @@ first-cells n l cells after e = rw e (take-at (tableOf n l) (drop (tableSize n) 
 shown-over : (g : Grid) (t rest s : List ℕ) → length t ≡ area g → Shown g t s → Shown g (t ++ rest) s
 shown-over g t rest s e h = record { cells = λ i l. rw (List·getD-append t rest 0 i (omega arith)) (h .cells i l); sums = h .sums }
 
-module _ (f : Lent) (good : bookOk (f .sources .book) ≡ true) (bytes : AreBytes (f .sources .fugitive)) (right : sheetOk (f .sheet) ≡ true) where
+module _ (f : Lent) (good : Right (f .sources)) (bytes : AreBytes (f .sources .fugitive)) (right : sheetOk (f .sheet) ≡ true) where
   few : lineCount (f .sheet) ≤ mostLines
   few = lines-few (f .sheet) right
 

@@ -18,23 +18,22 @@ use Rattle.desk.specs.Lent.{Sources, Lent}
 use Rattle.headers.specs.Book.{techniqueBlock}
 use Rattle.desk.specs.Book.{bookOk}
 use Rattle.desk.specs.Entries.{fugitiveOk}
-use Rattle.desk.specs.Row.{rowOf}
+use Rattle.desk.specs.Row.{RowSearch, Hit, Miss, rowOf}
+use Rattle.desk.specs.Books.{bookFor}
 use Rattle.desk.specs.Line.{lineOf}
 use Rattle.headers.specs.Sheet.{lineCount, mostLines}
 use Rattle.desk.specs.Sheet.{sheetOk}
 use Rattle.desk.specs.Cells.{width, tableSize, cellsOf}
-use Rattle.desk.specs.Account.{treatmentOf, generatedOf, inWater, byTreatment, byDust, byRow, excessive, misgraded, accountOf, lineOutcome}
+use Rattle.desk.specs.Account.{treatmentOf, generatedOf, inWater, byTreatment, byDust, byRow, excessive, misgraded, accountIn, accountOf, lineOutcome}
 use Rattle.answers.specs.Answer.{fileRule, lineRule, answerNumber, answerLine}
-use Rattle.desk.specs.Table.{rowGiven, tableOf, bySources, bySheet, orNext, byFiles, orLine, byLines, answerOf, cellsAfter}
+use Rattle.desk.specs.Table.{rowGiven, tableOf, byPublished, bySources, bySheet, orNext, byFiles, orLine, byLines, answerOf, cellsAfter}
 use Rattle.desk.specs.Demands.{Between, OfFile, OfLine, LineDemand, cellAt, Demand2, Demand3}
 use Rattle.desk.specs.Declare.{shownAfter, BothAfter, Declared}
-use Rattle.desk.specs.Inner.{Ready}
+use Rattle.desk.specs.Inner.{Right, Ready}
 use Rattle.desk.specs.declared.line.Line.{Line}
 use Rattle.desk.specs.declared.dust.Dust.{Dust}
 use Rattle.desk.specs.declared.dust.Dust.the-variants.{Escapes, NoEntry}
 use Rattle.desk.specs.declared.row.Row.{Row}
-use Rattle.desk.specs.declared.row.RowSearch.{RowSearch}
-use Rattle.desk.specs.declared.row.RowSearch.the-variants.{Hit, Miss}
 use Rattle.desk.specs.declared.account.Treatment.{Treatment}
 use Rattle.desk.specs.declared.account.Treatment.the-variants.{By, NoTreatment}
 use Rattle.desk.specs.declared.account.LineOutcome.{LineOutcome}
@@ -45,6 +44,7 @@ use Rattle.answers.specs.declared.answer.Outcome.{Outcome}
 use Rattle.answers.specs.declared.answer.Outcome.the-variants.{Accepted, RefusedFile, RefusedLine}
 use Rattle.desk.specs.declared.cells.TableRow.{TableRow}
 use Rattle.desk.proofs.LawColumns.{sum-same}
+use Rattle.desk.proofs.LawBooks.{book-right}
 use Rattle.desk.proofs.LawAccount.{line-sound}
 use Rattle.desk.proofs.LawTable.{accepted-both, ready, lines-few}
 use Rattle.desk.proofs.LawDeclare.{line-cell, table-size, columns-right}
@@ -96,11 +96,13 @@ both-within n (RefusedLine k line) next h g = (h .0, omega (arith, h .0, h .1))
 
 -- before the lines no line is refused
 sources-within : (from : Sources) → Within 0 (bySources from)
-unfolding bySources
+unfolding bySources byPublished
 sources-within from =
-    either-way (bookOk (from .book))
-    (λ p. either-way (fugitiveOk (from .fugitive)) (λ q. rw (p, q) tt) (λ q. rw (p, q) (inr refl)))
-    (λ p. rw p (inl (record { low = omega arith; high = omega arith })))
+    either-way (bookOk (from .own))
+    (λ o. either-way (bookOk (from .book))
+    (λ p. either-way (fugitiveOk (from .fugitive)) (λ q. rw (o, p, q) tt) (λ q. rw (o, p, q) (inr refl)))
+    (λ p. rw (o, p) (inl (record { low = omega arith; high = omega arith }))))
+    (λ o. rw o (inl (record { low = omega arith; high = omega arith })))
 
 sheet-within : (s : List ℕ) (room : ℕ) → Within 0 (bySheet s room)
 sheet-within s room =
@@ -142,17 +144,20 @@ answer-line-small f room =
 abbrev RowDemand : (from : Sources) (line : Line) (row : TableRow) → Type 0
 RowDemand from line row = LineDemand from line (row .generated) (row .removed) (row .reused) (row .discharged) (row .fugitive)
 
-module _ (from : Sources) (line : Line) (good : bookOk (from .book) ≡ true) (reuse : line .reuse ≤ wholeShare) where
-  abbrev block : List ℕ
-  block = techniqueBlock (from .book)
+module _ (from : Sources) (line : Line) (good : bookOk (bookFor from (line .key)) ≡ true) (reuse : line .reuse ≤ wholeShare) where
+  abbrev book : List ℕ
+  book = bookFor from (line .key)
 
-  module _ (row : Row) (hit : rowOf (from .book) (line .key) ≡ Hit row) where
+  abbrev block : List ℕ
+  block = techniqueBlock book
+
+  module _ (row : Row) (hit : rowOf book (line .key) ≡ Hit row) where
     treatment-demand : (k : Treatment) (F : ℕ) (given : TableRow) → treatmentOf block row (line .technique) (line .reading) ≡ k
         → dustOf (from .fugitive) line ≡ Escapes F → byTreatment row line F k ≡ Given given → RowDemand from line given
     treatment-demand (NoTreatment fault) F given by dust h = clash (cc)
     treatment-demand (By e n d) F given by dust h =
         let a = amountsOf (generatedOf row line) e n d (line .reuse) (inWater line) in
-        let holds = line-sound (from .book) line row e n d good reuse hit by in
+        let holds = line-sound book line row e n d good reuse hit by in
         let g : a .generated + F ≡ given .generated = cc in
         let r : a .removed ≡ given .removed = cc in
         let u : a .reused ≡ given .reused = cc in
@@ -182,21 +187,22 @@ module _ (from : Sources) (line : Line) (good : bookOk (from .book) ≡ true) (r
     dust-demand NoEntry given e h = clash (cc)
     dust-demand (Escapes F) given e h = treatment-demand _ F given refl e h
 
-  row-demand : (found : RowSearch) (given : TableRow) → rowOf (from .book) (line .key) ≡ found
+  row-demand : (found : RowSearch) (given : TableRow) → rowOf book (line .key) ≡ found
       → byRow block (from .fugitive) line found ≡ Given given → RowDemand from line given
   row-demand Miss given e h = clash (cc)
   row-demand (Hit row) given e h = dust-demand row e (dustOf (from .fugitive) line) given refl h
 
-account-demand : (from : Sources) (line : Line) (given : TableRow) → bookOk (from .book) ≡ true → accountOf from line ≡ Given given → RowDemand from line given
-unfolding accountOf
-account-demand from line given good h =
+account-demand : (from : Sources) (line : Line) (given : TableRow) → Right from → accountOf from line ≡ Given given → RowDemand from line given
+unfolding accountOf accountIn
+account-demand from line given right h =
     either-way (excessive line)
     (λ p. let r : Refusal of.ActivityTooLarge ≡ Given given = rw p at h in clash (cc))
     (λ p. either-way (ltb wholeShare (line .reuse))
     (λ q. let r : Refusal of.ReuseTooLarge ≡ Given given = rw (p, q) at h in clash (cc))
     (λ q. either-way (misgraded line)
     (λ g. let r : Refusal of.BadGrade ≡ Given given = rw (p, q, g) at h in clash (cc))
-    (λ g. row-demand from line good (ltb-false wholeShare (line .reuse) q) (rowOf (from .book) (line .key)) given refl (rw (p, q, g) at h))))
+    (λ g. row-demand from line (book-right from (line .key) (right .own) (right .book)) (ltb-false wholeShare (line .reuse) q)
+    (rowOf (bookFor from (line .key)) (line .key)) given refl (rw (p, q, g) at h))))
 
 -- every line of an accepted sheet gives a row
 both-given : (r : Outcome) (o : LineOutcome) (n : ℕ) → orLine r o n ≡ Accepted → (r ≡ Accepted) × ((row : TableRow) × (o ≡ Given row))
@@ -232,7 +238,7 @@ module _ (f : Lent) (exact shown : List ℕ) (r : Outcome) (exact' shown' : List
 
       line-given : (i : ℕ) (row : TableRow) → lineOutcome f i ≡ Given row → RowDemand (f .sources) (lineOf (f .sheet) i) row
       unfolding lineOutcome
-      line-given i row g = account-demand (f .sources) (lineOf (f .sheet) i) row (is-ready .sources .book) g
+      line-given i row g = account-demand (f .sources) (lineOf (f .sheet) i) row (is-ready .sources) g
 
       cell-is : (i j : ℕ) (row : TableRow) → i < lineCount (f .sheet) → j < width → lineOutcome f i ≡ Given row
           → cellAt exact' i j ≡ at (cellsOf row) j

@@ -27,12 +27,13 @@ use Rattle.search.specs.Test.{all, every}
 use Rattle.fugitive.specs.Table.{fugitiveHeaderOk}
 use Rattle.desk.specs.Key.{keyFrom, keyLess}
 use Rattle.desk.specs.Entries.{entryKey, entryRises, fugitiveOk}
-use Rattle.desk.specs.Row.{rowOf}
+use Rattle.desk.specs.Row.{RowSearch, Hit, Miss, rowOf}
+use Rattle.desk.specs.Books.{rowPlace, bookAt, bookFor}
 use Rattle.desk.specs.Line.{mostKilograms}
 use Rattle.desk.specs.Cells.{width}
 use Rattle.desk.specs.Dust.{entryHas, entryIndex, unitsPerFactor, dustBy, dustOf}
-use Rattle.desk.specs.Account.{byRow, excessive, misgraded, accountOf}
-use Rattle.desk.specs.Table.{bySources, byFiles}
+use Rattle.desk.specs.Account.{byRow, excessive, misgraded, accountIn, accountOf}
+use Rattle.desk.specs.Table.{byPublished, bySources, byFiles}
 use Rattle.desk.specs.Demands.{LineDemand}
 use Rattle.desk.specs.Declare.{Declared}
 use Rattle.desk.specs.Inner.{mostDust}
@@ -41,8 +42,8 @@ use Rattle.desk.specs.declared.dust.Dust.the-variants.{Escapes, NoEntry}
 use Rattle.desk.specs.declared.key.Key.{Key}
 use Rattle.desk.specs.declared.line.Line.{Line}
 use Rattle.desk.specs.declared.row.Row.{Row}
-use Rattle.desk.specs.declared.row.RowSearch.{RowSearch}
-use Rattle.desk.specs.declared.row.RowSearch.the-variants.{Hit, Miss}
+use Rattle.desk.specs.declared.books.RowPlace.{RowPlace}
+use Rattle.desk.specs.declared.books.RowPlace.the-variants.{InOwn, InPublished, InNeither}
 use Rattle.desk.specs.declared.account.LineOutcome.the-variants.{Refusal}
 use Rattle.answers.specs.declared.answer.LineFault.the-variants.{BadGrade, NoRow, NoFugitiveEntry}
 use Rattle.answers.specs.declared.answer.FileFault.the-variants.{BookMalformed, FugitiveMalformed}
@@ -112,33 +113,42 @@ pub ungraded-escapes-none : (f : List ℕ) (line : Line) → isGiven (line .grad
 unfolding dustOf
 ungraded-escapes-none f line none-given = rw none-given
 
-pub ungraded-alike : (book one other : List ℕ) (line : Line) → isGiven (line .grades) ≡ false → accountOf (sources book one) line ≡ accountOf (sources book other) line
-unfolding accountOf
-ungraded-alike book one other line none-given = rw (by-row (rowOf book (line .key)))
+pub ungraded-alike : (own book one other : List ℕ) (line : Line) → isGiven (line .grades) ≡ false
+    → accountOf (sources own book one) line ≡ accountOf (sources own book other) line
+unfolding accountOf accountIn bookFor
+ungraded-alike own book one other line none-given = by-place (rowPlace own book (line .key))
   where
-    by-row : (row : RowSearch) → byRow (techniqueBlock book) one line row ≡ byRow (techniqueBlock book) other line row
-    by-row Miss = refl
-    by-row (Hit row) = rw (ungraded-escapes-none one line none-given, ungraded-escapes-none other line none-given)
+    by-row : (b : List ℕ) (row : RowSearch) → byRow (techniqueBlock b) one line row ≡ byRow (techniqueBlock b) other line row
+    by-row b Miss = refl
+    by-row b (Hit row) = rw (ungraded-escapes-none one line none-given, ungraded-escapes-none other line none-given)
+
+    in-book : (b : List ℕ) → accountIn b one line ≡ accountIn b other line
+    in-book b = rw (by-row b (rowOf b (line .key)))
+
+    by-place : (place : RowPlace) → accountIn (bookAt (sources own book one) place) one line ≡ accountIn (bookAt (sources own book other) place) other line
+    by-place (InOwn i) = in-book own
+    by-place (InPublished i) = in-book book
+    by-place InNeither = in-book book
 
 -- ---- the order of refusals: 1, 13, then the sheet; of a line 4, 5, 15, 6, 14, 7
 
 module _ (from : Sources) where
-  -- one that looks at the table before the book
-  pub book-before-table : bookOk (from .book) ≡ false → bySources from ≡ RefusedFile BookMalformed
-  unfolding bySources
-  book-before-table wrong = rw wrong
+  -- one that looks at the table before a book
+  pub book-before-table : bookOk (from .own) ≡ true → bookOk (from .book) ≡ false → bySources from ≡ RefusedFile BookMalformed
+  unfolding bySources byPublished
+  book-before-table right wrong = rw (right, wrong)
 
   -- one that looks at the sheet or the room before the table
-  pub table-before-sheet : bookOk (from .book) ≡ true → fugitiveOk (from .fugitive) ≡ false → (sheet : List ℕ) (room : ℕ)
-      → byFiles (record { sources = from; sheet = sheet }) room ≡ RefusedFile FugitiveMalformed
-  unfolding byFiles bySources
-  table-before-sheet right wrong sheet room = rw (right, wrong)
+  pub table-before-sheet : bookOk (from .own) ≡ true → bookOk (from .book) ≡ true → fugitiveOk (from .fugitive) ≡ false
+      → (sheet : List ℕ) (room : ℕ) → byFiles (record { sources = from; sheet = sheet }) room ≡ RefusedFile FugitiveMalformed
+  unfolding byFiles bySources byPublished
+  table-before-sheet own published wrong sheet room = rw (own, published, wrong)
 
   -- a line that keeps rules 4 and 5
   module _ (line : Line) (moderate : excessive line ≡ false) (reuse : ltb wholeShare (line .reuse) ≡ false) where
     -- one that looks for the row before it looks at the grades
     pub grades-before-row : misgraded line ≡ true → accountOf from line ≡ Refusal BadGrade
-    unfolding accountOf
+    unfolding accountOf accountIn
     grades-before-row bad = rw (moderate, reuse, bad)
 
     -- one that takes a grade in water, or in any medium but gas
@@ -148,14 +158,14 @@ module _ (from : Sources) where
 
     module _ (taken : misgraded line ≡ false) where
       -- one that looks for the entry before the row
-      pub row-before-entry : rowOf (from .book) (line .key) ≡ Miss → accountOf from line ≡ Refusal NoRow
-      unfolding accountOf
+      pub row-before-entry : rowOf (bookFor from (line .key)) (line .key) ≡ Miss → accountOf from line ≡ Refusal NoRow
+      unfolding accountOf accountIn
       row-before-entry none = rw (moderate, reuse, taken, none)
 
       -- one that looks at the technique or the reading before the entry
-      pub entry-before-technique : (row : Row) → rowOf (from .book) (line .key) ≡ Hit row → dustOf (from .fugitive) line ≡ NoEntry
+      pub entry-before-technique : (row : Row) → rowOf (bookFor from (line .key)) (line .key) ≡ Hit row → dustOf (from .fugitive) line ≡ NoEntry
           → accountOf from line ≡ Refusal NoFugitiveEntry
-      unfolding accountOf
+      unfolding accountOf accountIn
       entry-before-technique row hit none = rw (moderate, reuse, taken, hit, none)
 
 -- ---- entries rise

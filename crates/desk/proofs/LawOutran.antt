@@ -14,13 +14,13 @@ use Rattle.shares.specs.declared.share.Reading.the-variants.{Hours, Throughout}
 use Rattle.shares.proofs.LawExcess.{outran-as-throughout}
 use Rattle.desk.specs.Lent.{Sources}
 use Rattle.desk.specs.Book.{techniqueEfficiency}
-use Rattle.desk.specs.Row.{rowOf}
+use Rattle.desk.specs.Row.{Hit, rowOf}
+use Rattle.desk.specs.Books.{bookFor}
 use Rattle.desk.specs.Technique.{techniqueIndex}
 use Rattle.desk.specs.Account.{byTechnique, treatmentOf, accountOf}
 use Rattle.desk.specs.Demands.{LineDemand}
 use Rattle.desk.specs.declared.line.Line.{Line}
 use Rattle.desk.specs.declared.row.Row.{Row}
-use Rattle.desk.specs.declared.row.RowSearch.the-variants.{Hit}
 use Rattle.desk.specs.declared.account.Treatment.the-variants.{By}
 use Rattle.desk.proofs.LawAlike.{withReading, technique-alike, account-alike}
 
@@ -39,7 +39,7 @@ module _ (run production : Float) (more most : ℕ) (ran : hoursOf run ≡ Is mo
   alike : (row : Row) → row .rule ≡ 1 → shareBy (Hours run production) (row .rule) ≡ shareBy Throughout (row .rule)
   alike row by-hours = rw by-hours (outran-as-throughout run production more most ran produced some above)
 
-  pub outran-line : (from : Sources) (line : Line) (row : Row) → rowOf (from .book) (line .key) ≡ Hit row → row .rule ≡ 1
+  pub outran-line : (from : Sources) (line : Line) (row : Row) → rowOf (bookFor from (line .key)) (line .key) ≡ Hit row → row .rule ≡ 1
       → accountOf from (withReading line (Hours run production)) ≡ accountOf from (withReading line Throughout)
   outran-line from line row hit by-hours =
       account-alike from line (Hours run production) Throughout
@@ -50,7 +50,7 @@ module _ (run production : Float) (more most : ℕ) (ran : hoursOf run ≡ Is mo
       → (line .technique ≡ 0 → ⊥) → line .reading ≡ Hours run production → (demand .n ≡ 1) × (demand .d ≡ 1)
   unfolding treatmentOf
   outran-demand from line G R U D F demand by-hours treated reading =
-      let t = techniqueBlock (from .book) in
+      let t = techniqueBlock (bookFor from (line .key)) in
       let row = demand .row in
       let place = techniqueIndex t (row .first) (row .techniques) (line .technique) in
       let as-hours : byTechnique t row (Hours run production) place ≡ By (demand .efficiency) (demand .n) (demand .d) =

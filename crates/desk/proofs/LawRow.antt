@@ -12,10 +12,9 @@ use Rattle.desk.specs.Key.{allScales}
 use Rattle.headers.specs.Book.{rowCount, techniqueBlock}
 use Rattle.desk.specs.Book.{bookOk}
 use Rattle.desk.specs.Inner.{GoodRow}
-use Rattle.desk.specs.Row.{rowHas, rowIndex, rowAt, rowFrom, rowOf}
+use Rattle.desk.specs.Row.{Hit, Miss, rowHas, rowIndex, rowAt, rowFrom, rowOf}
 use Rattle.desk.specs.declared.key.Key.{Key}
 use Rattle.desk.specs.declared.row.Row.{Row}
-use Rattle.desk.specs.declared.row.RowSearch.the-variants.{Hit}
 use Rattle.desk.proofs.LawBook.{row-coefficient, row-efficiency, row-listed}
 
 pub row-below : (b : List ℕ) (k : Key) (i : ℕ) → rowIndex b k ≡ At i → i < rowCount b
@@ -37,3 +36,16 @@ good-from b good Nothing below row h = clash (cc)
 pub hit-good : (b : List ℕ) (k : Key) (row : Row) → bookOk b ≡ true → rowOf b k ≡ Hit row → GoodRow (techniqueBlock b) row
 unfolding rowOf
 hit-good b k row good h = good-from b good (rowIndex b k) (λ i e. row-below b k i e) row h
+
+module _ (b : List ℕ) (k : Key) where
+  pub no-rows : rowCount b ≡ 0 → rowIndex b k ≡ Nothing
+  unfolding rowIndex first
+  no-rows none = rw none
+
+  pub hit-at : (i : ℕ) → rowIndex b k ≡ At i → rowOf b k ≡ Hit (rowAt b i)
+  unfolding rowOf
+  hit-at i found = rw found
+
+  pub none-at : rowIndex b k ≡ Nothing → rowOf b k ≡ Miss
+  unfolding rowOf
+  none-at none = rw none

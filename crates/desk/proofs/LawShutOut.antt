@@ -21,24 +21,23 @@ use Rattle.headers.specs.House.{fileOk}
 use Rattle.desk.specs.Key.{keyFrom, keySame}
 use Rattle.headers.specs.Book.{rowCount, bookHeaderOk}
 use Rattle.desk.specs.Book.{bookOk, rowStart, keyAt, rowOk, fieldsOk, coefficientAt, techniquesOk, rises}
-use Rattle.desk.specs.Row.{rowHas, rowIndex, rowAt, rowFrom, rowOf}
+use Rattle.desk.specs.Row.{RowSearch, Hit, Miss, rowHas, rowIndex, rowAt, rowFrom, rowOf}
 use Rattle.headers.specs.Sheet.{sheetHeaderOk, lineCount}
 use Rattle.desk.specs.Sheet.{sheetOk, lineOk}
 use Rattle.desk.specs.Line.{readingAt, gradesAt, lineOf}
 use Rattle.desk.specs.Cells.{width}
 use Rattle.headers.specs.Unit.{unitOf, unitOfSheet}
 use Rattle.desk.specs.Lent.{Sources, sources, Lent, lent}
-use Rattle.desk.specs.Account.{treatmentOf, generatedOf, excessive, accountOf, lineOutcome}
+use Rattle.desk.specs.Books.{rowPlace, bookFor}
+use Rattle.desk.specs.Account.{treatmentOf, generatedOf, excessive, accountIn, accountOf, lineOutcome}
 use Rattle.fugitive.specs.Grades.{isGiven, gradesBad}
 use Rattle.fugitive.specs.Table.{fugitiveHeaderOk}
 use Rattle.desk.specs.Entries.{fugitiveOk}
 use Rattle.desk.specs.Dust.{dustOf}
-use Rattle.desk.specs.Table.{rows, total, tableOf, bySources, byFiles, byLines, answerOf, cellsAfter}
+use Rattle.desk.specs.Table.{rows, total, tableOf, byPublished, bySources, byFiles, byLines, answerOf, cellsAfter}
 use Rattle.desk.specs.Declare.{Declared}
 use Rattle.desk.specs.Works.{Results, results, BundleDeclared}
 use Rattle.desk.specs.declared.line.Line.{Line}
-use Rattle.desk.specs.declared.row.RowSearch.{RowSearch}
-use Rattle.desk.specs.declared.row.RowSearch.the-variants.{Hit, Miss}
 use Rattle.desk.specs.declared.account.LineOutcome.the-variants.{Refusal}
 use Rattle.answers.specs.declared.answer.LineFault.the-variants.{ActivityTooLarge, ReuseTooLarge}
 use Rattle.answers.specs.declared.answer.Outcome.{Outcome}
@@ -47,17 +46,21 @@ use Rattle.answers.specs.declared.bundle.BundleOutcome.{BundleOutcome}
 use Rattle.answers.specs.declared.bundle.BundleOutcome.the-variants.{Taken}
 
 -- a book of one row: particulates in gas of industry 3240, 1 g/t of product (100 units a kilogram), no techniques
-abbrev book : List ℕ
+abbrev pub book : List ℕ
 book =
     (40 ∷ 0 ∷ 0 ∷ 0 ∷ 1 ∷ 0 ∷ 0 ∷ 0 ∷ 16 ∷ 0 ∷ 0 ∷ 0 ∷ 40 ∷ 0 ∷ 0 ∷ 0 ∷ 168 ∷ 12 ∷ 0 ∷ 0 ∷ 0 ∷ 0 ∷ 0 ∷ 0 ∷ 0 ∷ 0 ∷ 2 ∷ 3 ∷ 1 ∷ 1 ∷ 0 ∷
     0 ∷ 1 ∷ 0 ∷ 0 ∷ 0 ∷ 0 ∷ 0 ∷ 0 ∷ 0 ∷ [])
 
 -- a fugitive table without entries
-abbrev noEntries : List ℕ
+abbrev pub noEntries : List ℕ
 noEntries = 12 ∷ 0 ∷ 0 ∷ 0 ∷ 0 ∷ 0 ∷ 0 ∷ 0 ∷ 12 ∷ 0 ∷ 0 ∷ 0 ∷ []
 
+-- an own book without rows
+abbrev pub noRows : List ℕ
+noRows = 16 ∷ 0 ∷ 0 ∷ 0 ∷ 0 ∷ 0 ∷ 0 ∷ 0 ∷ 16 ∷ 0 ∷ 0 ∷ 0 ∷ 16 ∷ 0 ∷ 0 ∷ 0 ∷ []
+
 abbrev plain : Sources
-plain = sources book noEntries
+plain = sources noRows book noEntries
 
 -- a line of direct discharge with so many kilograms of product, given by their two low bytes
 abbrev line : (low high : ℕ) → List ℕ
@@ -90,8 +93,8 @@ worked : (answerOf one-and-two 15 ≡ Accepted) × (answerOf three-twice 15 ≡ 
     × (cellsAfter Accepted (lineCount (one-and-two .sheet)) (lineOutcome one-and-two) cells ≡ oneAndTwo)
     × (cellsAfter Accepted (lineCount (three-twice .sheet)) (lineOutcome three-twice) cells ≡ threeTwice)
     × (unitOfSheet (one-and-two .sheet) ≡ 100000)
-unfolding answerOf byFiles bySources fugitiveOk fugitiveHeaderOk bookOk bookHeaderOk fileOk every u32At u16At all rowOk fieldsOk coefficientAt techniquesOk rises sheetOk
-    sheetHeaderOk lineOk u64At byLines lineOutcome accountOf lineOf gradesAt gradesBad isGiven dustOf rowOf rowIndex first rowHas keySame keyFrom rowAt treatmentOf
+unfolding answerOf byFiles bySources byPublished fugitiveOk fugitiveHeaderOk bookOk bookHeaderOk fileOk every u32At u16At all rowOk fieldsOk coefficientAt techniquesOk rises sheetOk
+    sheetHeaderOk lineOk u64At byLines lineOutcome accountOf accountIn bookFor rowPlace lineOf gradesAt gradesBad isGiven dustOf rowOf rowIndex first rowHas keySame keyFrom rowAt treatmentOf
     generatedOf readingAt removedOf reusedOf dischargedOf cellsAfter tableOf rows total unitOf
 worked = (refl, refl, refl, refl, refl)
 
@@ -145,7 +148,7 @@ one-row-early r early meant = let e : Miss ≡ Hit (rowAt book 0) = sym early �
 
 -- one that looks at the reuse before the masses: where these are too large the refusal is theirs, whatever the reuse
 pub reuse-first : (from : Sources) (line : Line) → excessive line ≡ true → accountOf from line ≡ Refusal ReuseTooLarge → ⊥
-unfolding accountOf
+unfolding accountOf accountIn
 reuse-first from line large h = let e : Refusal ActivityTooLarge ≡ Refusal ReuseTooLarge = rw large at h in clash (cc)
 
 -- ---- a whole works
@@ -165,7 +168,7 @@ lentTwo = results (replicate 10 7) (replicate 10 7) (7 ∷ 7 ∷ [])
 worked-two : (bundleOutcome twoSheets 10 10 2 ≡ Taken) × (codeOf (answerOf (lent plain (bundled twoSheets 0)) 5) ≡ 131072)
     × (codeOf (answerOf (lent plain (bundled twoSheets 1)) 5) ≡ 0)
 unfolding bundleOutcome bundleOk bundleHeaderOk entryOk afterTheOneBefore roomy bundled
-    answerOf byFiles bySources fugitiveOk fugitiveHeaderOk bookOk bookHeaderOk fileOk every u32At u16At all rowOk fieldsOk coefficientAt techniquesOk rises sheetOk sheetHeaderOk
+    answerOf byFiles bySources byPublished fugitiveOk fugitiveHeaderOk bookOk bookHeaderOk fileOk every u32At u16At all rowOk fieldsOk coefficientAt techniquesOk rises sheetOk sheetHeaderOk
     lineOk u64At byLines
 worked-two = (refl, refl, refl)
 

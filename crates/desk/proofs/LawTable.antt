@@ -23,7 +23,7 @@ use Rattle.headers.specs.Sheet.{sheetHeader, sheetHeaderSize, sheetFits, sheetH
 use Rattle.desk.specs.Sheet.{linesOk, sheetOk}
 use Rattle.desk.specs.Cells.{width, tableSize, cellsOf, plus}
 use Rattle.desk.specs.Tally.{add}
-use Rattle.desk.specs.Table.{rowGiven, rows, total, tableOf, bySheet, bySources, orNext, byFiles, byLines, cellsAfter}
+use Rattle.desk.specs.Table.{rowGiven, rows, total, tableOf, bySheet, byPublished, bySources, orNext, byFiles, byLines, cellsAfter}
 use Rattle.desk.specs.Inner.{Fitting, filesTold, Right, Ready, Fillable, withRow}
 use Rattle.answers.specs.declared.answer.LineFault.{LineFault}
 use Rattle.answers.specs.declared.answer.Outcome.{Outcome}
@@ -149,11 +149,13 @@ unfolding byFiles
 files-told f room e h = rw e at h
 
 pub sources-right : (from : Sources) → bySources from ≡ Accepted → Right from
-unfolding bySources
+unfolding bySources byPublished
 sources-right from h =
-    either-way (bookOk (from .book))
-    (λ p. either-way (fugitiveOk (from .fugitive)) (λ q. record { book = p; fugitive = q }) (λ q. clash (cc)))
-    (λ p. clash (cc))
+    either-way (bookOk (from .own))
+    (λ o. either-way (bookOk (from .book))
+    (λ p. either-way (fugitiveOk (from .fugitive)) (λ q. record { own = o; book = p; fugitive = q }) (λ q. clash (cc)))
+    (λ p. clash (cc)))
+    (λ o. clash (cc))
 
 pub lines-few : (s : List ℕ) → sheetOk s ≡ true → lineCount s ≤ mostLines
 unfolding sheetOk sheetHeaderOk

@@ -4,6 +4,7 @@ pub mod LawFound
 pub mod LawRun
 pub mod LawOrder
 pub mod LawRow
+pub mod LawBooks
 pub mod LawTechnique
 pub mod LawAccount
 pub mod LawTable
@@ -15,3 +16,4 @@ pub mod LawOnce
 pub mod LawWorks
 pub mod LawShutOut
 pub mod LawDust
+pub mod LawOwn

@@ -8,7 +8,8 @@ use Rattle.search.specs.declared.found.Found.the-variants.{At, Nothing}
 use Rattle.amounts.specs.Line.{wholeShare, amountsOf}
 use Rattle.headers.specs.Book.{techniqueBlock}
 use Rattle.desk.specs.Book.{techniqueEfficiency}
-use Rattle.desk.specs.Row.{rowOf}
+use Rattle.desk.specs.Row.{RowSearch, Hit, Miss, rowOf}
+use Rattle.desk.specs.Books.{bookFor}
 use Rattle.desk.specs.Technique.{techniqueIndex}
 use Rattle.shares.specs.Share.{shareBy}
 use Rattle.desk.specs.Line.{mostKilograms, lineOf}
@@ -22,8 +23,6 @@ use Rattle.desk.specs.declared.line.Line.{Line}
 use Rattle.desk.specs.declared.dust.Dust.{Dust}
 use Rattle.desk.specs.declared.dust.Dust.the-variants.{Escapes, NoEntry}
 use Rattle.desk.specs.declared.row.Row.{Row}
-use Rattle.desk.specs.declared.row.RowSearch.{RowSearch}
-use Rattle.desk.specs.declared.row.RowSearch.the-variants.{Hit, Miss}
 use Rattle.shares.specs.declared.share.Reading.{Reading}
 use Rattle.shares.specs.declared.share.Share.{Share}
 use Rattle.shares.specs.declared.share.Share.the-variants.{Part, NoShare}
@@ -68,6 +67,10 @@ abbrev pub byRow : (t f : List ℕ) (line : Line) (row : RowSearch) → LineOutc
 byRow t f line Miss = Refusal NoRow
 byRow t f line (Hit row) = byDust t row line (dustOf f line)
 
+-- the row with its techniques, both from this book
+abbrev pub byBook : (b f : List ℕ) (line : Line) → LineOutcome
+byBook b f line = byRow (techniqueBlock b) f line (rowOf b (line .key))
+
 -- product or material above 10^9 kg
 abbrev pub excessive : Line → Bool
 excessive line = ltb mostKilograms (line .product) || ltb mostKilograms (line .material)
@@ -76,12 +79,17 @@ excessive line = ltb mostKilograms (line .product) || ltb mostKilograms (line .m
 abbrev pub misgraded : Line → Bool
 misgraded line = gradesBad (line .grades) (line .key .medium) (line .key .pollutant)
 
-unfoldable pub accountOf : (from : Sources) (line : Line) → LineOutcome
-accountOf from line =
+-- by one book and the fugitive table
+unfoldable pub accountIn : (b f : List ℕ) (line : Line) → LineOutcome
+accountIn b f line =
     cond (excessive line) (Refusal ActivityTooLarge)
     (cond (ltb wholeShare (line .reuse)) (Refusal ReuseTooLarge)
     (cond (misgraded line) (Refusal BadGrade)
-    (byRow (techniqueBlock (from .book)) (from .fugitive) line (rowOf (from .book) (line .key)))))
+    (byBook b f line)))
+
+-- by the book that answers, for the row and its techniques alike
+unfoldable pub accountOf : (from : Sources) (line : Line) → LineOutcome
+accountOf from line = accountIn (bookFor from (line .key)) (from .fugitive) line
 
 -- line i of the sheet by its sources, counted from 0
 unfoldable pub lineOutcome : (f : Lent) (i : ℕ) → LineOutcome

@@ -9,7 +9,8 @@ use Rattle.settle.specs.Grid.{Grid, grid}
 use Rattle.settle.specs.Shown.{at, sum, Shown}
 use Rattle.desk.specs.Lent.{Sources, Lent}
 use Rattle.headers.specs.Book.{techniqueBlock}
-use Rattle.desk.specs.Row.{rowOf}
+use Rattle.desk.specs.Row.{Hit, rowOf}
+use Rattle.desk.specs.Books.{bookFor}
 use Rattle.headers.specs.Sheet.{lineCount}
 use Rattle.desk.specs.Line.{lineOf}
 use Rattle.desk.specs.Cells.{width, discharged, tableSize}
@@ -21,7 +22,6 @@ use Rattle.headers.specs.Unit.{unitOfSheet}
 use Rattle.desk.specs.declared.line.Line.{Line}
 use Rattle.desk.specs.declared.dust.Dust.the-variants.{Escapes}
 use Rattle.desk.specs.declared.row.Row.{Row}
-use Rattle.desk.specs.declared.row.RowSearch.the-variants.{Hit}
 use Rattle.desk.specs.declared.account.Treatment.the-variants.{By}
 use Rattle.answers.specs.declared.answer.Outcome.{Outcome}
 use Rattle.answers.specs.declared.answer.Outcome.the-variants.{Accepted}
@@ -61,13 +61,13 @@ pub record Demand1 (f : Lent) (exact shown : List ℕ) (r : Outcome) (exact' sho
 
 -- a line of the sheet that left G, R, U, D, F
 pub record LineDemand (from : Sources) (line : Line) (G R U D F : ℕ) : Type 0 where
-  -- its row, and its treatment: the efficiency, and k = n over d
+  -- its row in the book that answers, and its treatment: the efficiency, and k = n over d
   pub row : Row
   pub efficiency : ℕ
   pub n : ℕ
   pub d : ℕ
-  pub found : rowOf (from .book) (line .key) ≡ Hit row
-  pub treated : treatmentOf (techniqueBlock (from .book)) row (line .technique) (line .reading) ≡ By efficiency n d
+  pub found : rowOf (bookFor from (line .key)) (line .key) ≡ Hit row
+  pub treated : treatmentOf (techniqueBlock (bookFor from (line .key))) row (line .technique) (line .reading) ≡ By efficiency n d
   -- what escapes, by the fugitive table
   pub escapes : dustOf (from .fugitive) line ≡ Escapes F
   -- G without F, and G

@@ -10,7 +10,7 @@ use Rattle.little.specs.Read.{u16Range, u16At}
 use Rattle.search.specs.First.{first}
 use Rattle.search.specs.InnerOrder.{listOrder}
 use Rattle.search.specs.Test.{every}
-use Rattle.search.specs.declared.found.Found.the-variants.{Nothing}
+use Rattle.search.specs.declared.found.Found.the-variants.{At, Nothing}
 use Rattle.search.specs.declared.order.Order.{Order}
 use Rattle.settle.specs.Shown.{at}
 use Rattle.settle.specs.Table.{Good}
@@ -19,7 +19,7 @@ use Rattle.desk.specs.Key.{keyFields}
 use Rattle.headers.specs.Book.{bookHeader, rowCount, techniqueCount, techniqueSize}
 use Rattle.desk.specs.Book.{fieldsAt, techniqueCode, techniqueEfficiency, techniquesOk}
 use Rattle.desk.specs.Book.{fieldsOk, coefficientAt, mostCoefficient, bookOk}
-use Rattle.desk.specs.Row.{rowHas}
+use Rattle.desk.specs.Row.{rowHas, rowIndex}
 use Rattle.headers.specs.Sheet.{lineCount, lineSize, mostLines}
 use Rattle.desk.specs.Sheet.{sheetOk, lineStart}
 use Rattle.desk.specs.Line.{mostKilograms}
@@ -37,8 +37,8 @@ use Rattle.desk.specs.declared.dust.Dust.the-variants.{Escapes, NoEntry}
 use Rattle.desk.specs.declared.key.Key.{Key}
 use Rattle.desk.specs.declared.line.Line.{Line}
 use Rattle.desk.specs.declared.row.Row.{Row}
-use Rattle.desk.specs.declared.row.RowSearch.{RowSearch}
-use Rattle.desk.specs.declared.row.RowSearch.the-variants.{Hit, Miss}
+use Rattle.desk.specs.declared.books.RowPlace.{RowPlace}
+use Rattle.desk.specs.declared.books.RowPlace.the-variants.{InOwn, InPublished, InNeither}
 use Rattle.desk.specs.declared.account.LineOutcome.{LineOutcome}
 use Rattle.answers.specs.declared.answer.Outcome.{Outcome}
 use Rattle.answers.specs.declared.answer.Outcome.the-variants.{Accepted}
@@ -77,21 +77,6 @@ pub record LineThere (s : List ℕ) (i : ℕ) : Type 0 where
   pub lies : LineIn s (lineStart s i)
 
 -- ---- a key
-
--- its fields stand in a row and in a line as u16, or as a byte
-pub record SmallKey (k : Key) : Type 0 where
-  pub industry : k .industry < u16Range
-  pub product : k .product < u16Range
-  pub material : k .material < u16Range
-  pub process : k .process < u16Range
-  pub scale : k .scale < u16Range
-  pub medium : k .medium < u16Range
-  pub pollutant : k .pollutant < u16Range
-
--- r is the key that is meant, and its fields are small
-pub record ReadsKey (r meant : Key) : Type 0 where
-  pub eq : r ≡ meant
-  pub small : SmallKey r
 
 -- the key with another scale
 unfoldable pub atScale : (k : Key) (scale : ℕ) → Key
@@ -174,30 +159,34 @@ pub record Listed (t : List ℕ) (from count : ℕ) : Type 0 where
 abbrev pub SmallRow : Row → Type 0
 SmallRow row = (row .first < counted) × (row .techniques < counted)
 
--- r is the row, or what the search answers, that is meant; its list is small
+-- r is the row that is meant; its list is small
 pub record ReadsRow (r meant : Row) : Type 0 where
   pub eq : r ≡ meant
   pub small : SmallRow r
 
-abbrev pub SmallHit : RowSearch → Type 0
-SmallHit (Hit row) = SmallRow row
-SmallHit Miss = Unit
+-- r says where the row of a key is; a place is that of a row of its book
+abbrev pub SmallPlace : RowPlace → Type 0
+SmallPlace (InOwn i) = i < counted
+SmallPlace (InPublished i) = i < counted
+SmallPlace InNeither = Unit
 
-pub record FindsRow (r meant : RowSearch) : Type 0 where
+pub record FindsPlace (r meant : RowPlace) : Type 0 where
   pub eq : r ≡ meant
-  pub small : SmallHit r
+  pub small : SmallPlace r
+
+-- row i of a right book is the one of this key
+pub record RowThere (b : List ℕ) (k : Key) (i : ℕ) : Type 0 where
+  pub found : rowIndex b k ≡ At i
+  pub small : i < counted
+  pub good : bookOk b ≡ true
 
 -- ---- a line
 
 -- what rules 1 and 13 leave
 pub record Right (from : Sources) : Type 0 where
+  pub own : bookOk (from .own) ≡ true
   pub book : bookOk (from .book) ≡ true
   pub fugitive : fugitiveOk (from .fugitive) ≡ true
-
--- r is the line that is meant, and its key is small
-pub record ReadsLine (r meant : Line) : Type 0 where
-  pub eq : r ≡ meant
-  pub small : SmallKey (r .key)
 
 -- what rule 4 leaves
 pub record Moderate (line : Line) : Type 0 where
@@ -228,13 +217,17 @@ pub record Gradable (t f : List ℕ) (row : Row) (line : Line) : Type 0 where
   pub fugitive : fugitiveOk f ≡ true
   pub graded : misgraded line ≡ false
 
--- what rules 1, 13, 4, 5 and 15 leave
-pub record Accountable (from : Sources) (line : Line) : Type 0 where
-  pub right : Right from
-  pub key : SmallKey (line .key)
+-- what rules 13, 4, 5 and 15 leave
+pub record Admitted (f : List ℕ) (line : Line) : Type 0 where
+  pub fugitive : fugitiveOk f ≡ true
   pub activity : Moderate line
   pub reuse : line .reuse ≤ wholeShare
   pub graded : misgraded line ≡ false
+
+-- and rule 1
+pub record Accountable (from : Sources) (line : Line) : Type 0 where
+  pub right : Right from
+  pub admitted : Admitted (from .fugitive) line
 
 -- ---- the tables
 

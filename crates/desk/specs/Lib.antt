@@ -2,6 +2,7 @@ pub mod Lent
 pub mod Key
 pub mod Book
 pub mod Row
+pub mod Books
 pub mod Technique
 pub mod Sheet
 pub mod Line
@@ -15,6 +16,7 @@ pub mod Table
 pub mod Demands
 pub mod Declare
 pub mod Works
+pub mod OneBook
 pub mod Inner
 pub mod InnerRun
 pub mod InnerWorks

@@ -10,8 +10,6 @@ use Rattle.headers.specs.Book.{rowCount}
 use Rattle.desk.specs.Book.{rowStart, keyAt, fieldsAt, coefficientAt}
 use Rattle.desk.specs.declared.key.Key.{Key}
 use Rattle.desk.specs.declared.row.Row.{Row}
-use Rattle.desk.specs.declared.row.RowSearch.{RowSearch}
-use Rattle.desk.specs.declared.row.RowSearch.the-variants.{Hit, Miss}
 
 -- row i has this key
 unfoldable pub rowHas : List ℕ → Key → ℕ → Bool
@@ -31,6 +29,10 @@ rowAt b i =
       first = fieldsAt b (rowStart b i) .first;
       techniques = fieldsAt b (rowStart b i) .techniques;
     }
+
+pub data RowSearch : Type 0 where
+  Hit : Row → RowSearch
+  Miss : RowSearch
 
 abbrev pub rowFrom : List ℕ → Found → RowSearch
 rowFrom b (At i) = Hit (rowAt b i)

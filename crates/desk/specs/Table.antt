@@ -13,7 +13,8 @@ use Rattle.desk.specs.Sheet.{sheetOk}
 use Rattle.desk.specs.Account.{lineOutcome}
 use Rattle.desk.specs.Cells.{tableSize, cellsOf, zeros}
 use Rattle.desk.specs.Tally.{start, add}
-use Rattle.answers.specs.declared.answer.FileFault.the-variants.{BookMalformed, FugitiveMalformed, SheetMalformed, ResultTooShort}
+use Rattle.answers.specs.declared.answer.FileFault.the-variants.{OwnBookMalformed, BookMalformed, FugitiveMalformed}
+use Rattle.answers.specs.declared.answer.FileFault.the-variants.{SheetMalformed, ResultTooShort}
 use Rattle.answers.specs.declared.answer.Outcome.{Outcome}
 use Rattle.answers.specs.declared.answer.Outcome.the-variants.{Accepted, RefusedFile, RefusedLine}
 use Rattle.desk.specs.declared.account.LineOutcome.{LineOutcome}
@@ -49,10 +50,13 @@ roomFor lines room = cond (leb (tableSize lines) room) Accepted (RefusedFile Res
 abbrev pub bySheet : (s : List ℕ) (room : ℕ) → Outcome
 bySheet s room = cond (sheetOk s) (roomFor (lineCount s) room) (RefusedFile SheetMalformed)
 
--- what is wrong with the book, and then with the fugitive table
+-- what is wrong with the published book, and then with the fugitive table
+unfoldable pub byPublished : (b f : List ℕ) → Outcome
+byPublished b f = cond (bookOk b) (cond (fugitiveOk f) Accepted (RefusedFile FugitiveMalformed)) (RefusedFile BookMalformed)
+
+-- what is wrong with the works' own book, before these
 unfoldable pub bySources : (from : Sources) → Outcome
-bySources from =
-    cond (bookOk (from .book)) (cond (fugitiveOk (from .fugitive)) Accepted (RefusedFile FugitiveMalformed)) (RefusedFile BookMalformed)
+bySources from = cond (bookOk (from .own)) (byPublished (from .book) (from .fugitive)) (RefusedFile OwnBookMalformed)
 
 -- what is refused first stands; where that is nothing, the next answer does
 abbrev pub orNext : (first next : Outcome) → Outcome

@@ -4,12 +4,15 @@ ghost use Prim.Native.Nat.{_≤_};
 ghost use Rattle.amounts.specs.Line.{Admissible, amountsOf};
 ghost use Rattle.headers.specs.Book.{techniqueBlock};
 ghost use Rattle.shares.specs.Share.{shareBy};
-ghost use Rattle.desk.specs.Row.{rowOf};
+ghost use Rattle.desk.specs.Row.{Hit, rowAt};
+ghost use Rattle.desk.specs.Books.{bookFor};
 ghost use Rattle.desk.specs.Lent.{sources, lent};
 ghost use Rattle.desk.specs.Dust.{dustOf};
-ghost use Rattle.desk.specs.Account.{treated, treatmentOf, generatedOf, byTreatment, byDust, byRow, accountOf, lineOutcome};
-ghost use Rattle.desk.specs.Inner.{Listed, SmallKey, SmallProduct, SmallRow, mostDust};
-ghost use Rattle.desk.specs.Inner.{Treatable, Gradable, Right, Accountable, LineReady};
+ghost use Rattle.desk.specs.Account.{treated, treatmentOf, generatedOf, byTreatment, byDust, byRow, byBook, accountOf, lineOutcome};
+ghost use Rattle.desk.specs.Inner.{Listed, SmallProduct, SmallRow, RowThere, mostDust};
+ghost use Rattle.desk.specs.Inner.{Treatable, Gradable, Admitted, Right, Accountable, LineReady};
+use super::books::RowPlace;
+use super::books::row_place;
 use super::cells::TableRow;
 use super::cells::row_from;
 use super::dust::Dust;
@@ -20,8 +23,7 @@ use super::line::WHOLE_SHARE;
 use super::line::line_of;
 use super::line::reading_at;
 use super::row::Row;
-use super::row::RowSearch;
-use super::row::row_of;
+use super::row::row_at;
 use super::sheet::line_start;
 use super::technique::efficiency_at;
 use super::technique::technique_index;
@@ -137,20 +139,29 @@ fn by_dust(t: &[u8], f: &[u8], row: Row, line: Line) -> LineOutcome
     }
 }
 
-fn by_row(b: &[u8], f: &[u8], line: Line) -> LineOutcome
-    requires { ⌜ Accountable (sources (now b) (now f)) line ⌝ }
-    ensures { λ r. ⌜ r ≡ byRow (techniqueBlock (now (b .entry))) (now (f .entry)) line (rowOf (now (b .entry)) (line .key)) ⌝ }
+// By row i of a book, with the techniques of the same book.
+fn by_row(b: &[u8], i: usize, f: &[u8], line: Line) -> LineOutcome
+    requires { ⌜ RowThere (now b) (line .key) i × Admitted (now f) line ⌝ }
+    ensures { λ r. ⌜ r ≡ byRow (techniqueBlock (now (b .entry))) (now (f .entry)) line (Hit (rowAt (now (b .entry)) i)) ⌝ }
+{
+    by_dust(technique_block(b), f, row_at(b, i), line)
+}
+
+fn by_books(own: &[u8], b: &[u8], f: &[u8], line: Line) -> LineOutcome
+    requires { ⌜ Accountable (sources (now own) (now b) (now f)) line ⌝ }
+    ensures { λ r. ⌜ r ≡ byBook (bookFor (sources (now (own .entry)) (now (b .entry)) (now (f .entry))) (line .key)) (now (f .entry)) line ⌝ }
 {
     let key = line.key;
-    match row_of(b, key) {
-        RowSearch::Miss => LineOutcome::Refusal(LineFault::NoRow),
-        RowSearch::Hit(row) => by_dust(technique_block(b), f, row, line),
+    match row_place(own, b, key) {
+        RowPlace::InOwn(i) => by_row(own, i, f, line),
+        RowPlace::InPublished(i) => by_row(b, i, f, line),
+        RowPlace::InNeither => LineOutcome::Refusal(LineFault::NoRow),
     }
 }
 
-fn account(b: &[u8], f: &[u8], line: Line) -> LineOutcome
-    requires { ⌜ Right (sources (now b) (now f)) × SmallKey (line .key) ⌝ }
-    ensures { λ r. ⌜ r ≡ accountOf (sources (now (b .entry)) (now (f .entry))) line ⌝ }
+fn account(own: &[u8], b: &[u8], f: &[u8], line: Line) -> LineOutcome
+    requires { ⌜ Right (sources (now own) (now b) (now f)) ⌝ }
+    ensures { λ r. ⌜ r ≡ accountOf (sources (now (own .entry)) (now (b .entry)) (now (f .entry))) line ⌝ }
 {
     let excessive = (MOST_KILOGRAMS < line.product) | (MOST_KILOGRAMS < line.material);
     if excessive {
@@ -164,13 +175,13 @@ fn account(b: &[u8], f: &[u8], line: Line) -> LineOutcome
     if grades.is_bad(key.medium, key.pollutant) {
         return LineOutcome::Refusal(LineFault::BadGrade);
     }
-    by_row(b, f, line)
+    by_books(own, b, f, line)
 }
 
-pub(crate) fn line_outcome(b: &[u8], f: &[u8], s: &[u8], i: usize) -> LineOutcome
-    requires { ⌜ LineReady (lent (sources (now b) (now f)) (now s)) i ⌝ }
-    ensures { λ r. ⌜ r ≡ lineOutcome (lent (sources (now (b .entry)) (now (f .entry))) (now (s .entry))) i ⌝ }
+pub(crate) fn line_outcome(own: &[u8], b: &[u8], f: &[u8], s: &[u8], i: usize) -> LineOutcome
+    requires { ⌜ LineReady (lent (sources (now own) (now b) (now f)) (now s)) i ⌝ }
+    ensures { λ r. ⌜ r ≡ lineOutcome (lent (sources (now (own .entry)) (now (b .entry)) (now (f .entry))) (now (s .entry))) i ⌝ }
 {
     let reading = reading_at(s, line_start(s, i));
-    account(b, f, line_of(s, i, reading))
+    account(own, b, f, line_of(s, i, reading))
 }

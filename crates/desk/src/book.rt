@@ -7,7 +7,7 @@ ghost use Rattle.little.specs.Read.{Reads};
 ghost use Rattle.headers.specs.Book.{techniqueCount, bookHeaderOk, techniqueBlock};
 ghost use Rattle.desk.specs.Book.{rowStart, keyAt, fieldsOk, coefficientAt, rises, rowsOk, bookOk};
 ghost use Rattle.search.specs.InnerOrder.{listOrder};
-ghost use Rattle.desk.specs.Inner.{counted, farthest, RowIn, ReadsKey, atScale, restFields, keyOrder, rowFits};
+ghost use Rattle.desk.specs.Inner.{counted, farthest, RowIn, atScale, restFields, keyOrder, rowFits};
 ghost use Rattle.desk.specs.InnerRun.{runsApart, Runs, Block};
 use super::inside::byte_in;
 use super::inside::u16_in;
@@ -40,7 +40,7 @@ pub(crate) fn row_start(b: &[u8], i: usize) -> usize
 
 fn key_at(b: &[u8], at: usize) -> Key
     requires { ⌜ RowIn (now b) at ⌝ }
-    ensures { λ r. ⌜ ReadsKey r (keyAt (now (b .entry)) at) ⌝ }
+    ensures { λ r. ⌜ r ≡ keyAt (now (b .entry)) at ⌝ }
 {
     key_from(b, at, byte_in(b, at, 10), byte_in(b, at, 11))
 }
@@ -184,11 +184,15 @@ fn checked(b: &[u8], runs: &mut [u16]) -> bool
 // As many runs as the longest technique block has.
 const KEPT_RUNS: usize = MOST_TECHNIQUES / RUNS_APART;
 
-// Whether a book of any content and size is right. Rows are looked at only where the header is, so that no wrong count is walked.
+// Whether a book of any content and size is right. Rows are looked at only where the header is, so that no wrong count is walked; and
+// where there are none no technique is looked at either, since no row names it.
 pub fn book_ok(b: &[u8]) -> bool
     ensures { λ r. ⌜ r ≡ bookOk (now (b .entry)) ⌝ }
 {
     if book_header_ok(b) {
+        if row_count(b) == 0 {
+            return true;
+        }
         let mut runs = [0u16; KEPT_RUNS];
         checked(b, &mut runs)
     } else {

@@ -32,18 +32,19 @@ fn show(unit: u64, lines: usize, exact: &[u64], shown: &mut [u64])
 }
 
 fn both_tables(
+    own: &[u8],
     book: &[u8],
     fugitive: &[u8],
     sheet: &[u8],
     exact: &mut [u64],
     shown: &mut [u64],
 ) -> Outcome
-    requires { ⌜ Ready (lent (sources (now book) (now fugitive)) (now sheet)) (min (length (now exact)) (length (now shown))) ⌝ }
-    ensures { λ r. ⌜ LinesDeclared (lent (sources (now (book .entry)) (now (fugitive .entry))) (now (sheet .entry)))
+    requires { ⌜ Ready (lent (sources (now own) (now book) (now fugitive)) (now sheet)) (min (length (now exact)) (length (now shown))) ⌝ }
+    ensures { λ r. ⌜ LinesDeclared (lent (sources (now (own .entry)) (now (book .entry)) (now (fugitive .entry))) (now (sheet .entry)))
         (now (exact .entry)) (now (shown .entry)) r (now (exact .exit)) (now (shown .exit)) ⌝ }
 {
     let lines = line_count(sheet);
-    let outcome = fill(book, fugitive, sheet, lines, exact);
+    let outcome = fill(own, book, fugitive, sheet, lines, exact);
     if let Outcome::Accepted = outcome {
         show(unit_of(sheet), lines, exact, shown);
         return outcome;
@@ -55,39 +56,42 @@ fn both_tables(
 // What `declare` answers and leaves, for sources of which it is known what is wrong with them.
 pub(crate) fn declare_told(
     told: Outcome,
+    own: &[u8],
     book: &[u8],
     fugitive: &[u8],
     sheet: &[u8],
     exact: &mut [u64],
     shown: &mut [u64],
 ) -> Outcome
-    requires { ⌜ told ≡ bySources (sources (now book) (now fugitive)) ⌝ }
-    ensures { λ r. ⌜ Declared (lent (sources (now (book .entry)) (now (fugitive .entry))) (now (sheet .entry)))
+    requires { ⌜ told ≡ bySources (sources (now own) (now book) (now fugitive)) ⌝ }
+    ensures { λ r. ⌜ Declared (lent (sources (now (own .entry)) (now (book .entry)) (now (fugitive .entry))) (now (sheet .entry)))
         (now (exact .entry)) (now (shown .entry)) r (now (exact .exit)) (now (shown .exit)) ⌝ }
 {
     let refusal = by_files(told, sheet, shorter(exact.len(), shown.len()));
     if let Outcome::Accepted = refusal {
-        return both_tables(book, fugitive, sheet, exact, shown);
+        return both_tables(own, book, fugitive, sheet, exact, shown);
     }
     clear(exact);
     clear(shown);
     refusal
 }
 
-// Figures, or one refusal, for a book, a fugitive table and a sheet of any content and results of any size. Rule 3 is for either result,
+// Figures, or one refusal, for books, a fugitive table and a sheet of any content and results of any size. Rule 3 is for either result,
 // before any line is looked at. On refusal every cell of both results is zero; on acceptance the cells past the tables keep their values.
 pub fn declare(
+    own: &[u8],
     book: &[u8],
     fugitive: &[u8],
     sheet: &[u8],
     exact: &mut [u64],
     shown: &mut [u64],
 ) -> Outcome
-    ensures { λ r. ⌜ Declared (lent (sources (now (book .entry)) (now (fugitive .entry))) (now (sheet .entry)))
+    ensures { λ r. ⌜ Declared (lent (sources (now (own .entry)) (now (book .entry)) (now (fugitive .entry))) (now (sheet .entry)))
         (now (exact .entry)) (now (shown .entry)) r (now (exact .exit)) (now (shown .exit)) ⌝ }
 {
     declare_told(
-        by_sources(book, fugitive),
+        by_sources(own, book, fugitive),
+        own,
         book,
         fugitive,
         sheet,

@@ -1,10 +1,7 @@
 // The seven fields by which a row of the book is found, and by which the rows rise; the entries of the fugitive table have the first five.
 ghost use mathlib.Core.Path.{_≡_};
-ghost use Prim.Native.Nat.{_<_, _≤_, _+_};
-ghost use lib.ListN.{length};
-ghost use Rattle.little.specs.Read.{u16Range};
 ghost use Rattle.search.specs.InnerOrder.{listOrder};
-ghost use Rattle.desk.specs.Inner.{CodesIn, ReadsKey, atScale, codeFields, codesAt};
+ghost use Rattle.desk.specs.Inner.{CodesIn, atScale, codeFields, codesAt};
 ghost use Rattle.desk.specs.Key.{keyFrom};
 use super::inside::u16_in;
 use search::order::Order;
@@ -25,8 +22,8 @@ pub struct Key {
 
 // Rows, lines and entries begin with the same five codes.
 pub(crate) fn key_from(s: &[u8], at: usize, medium: usize, pollutant: usize) -> Key
-    requires { ⌜ (at + 10 ≤ length (now s)) × (medium < u16Range) × (pollutant < u16Range) ⌝ }
-    ensures { λ r. ⌜ ReadsKey r (keyFrom (now (s .entry)) at medium pollutant) ⌝ }
+    requires { ⌜ CodesIn (now s) at ⌝ }
+    ensures { λ r. ⌜ r ≡ keyFrom (now (s .entry)) at medium pollutant ⌝ }
 {
     Key {
         industry: u16_in(s, at, 0),

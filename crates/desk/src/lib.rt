@@ -1,7 +1,8 @@
-// The desk: it reads a coefficient book, a fugitive table and a sheet, or a bundle of sheets, and accounts for the lines. It relies on the
-// crates below it only through their promises and public laws.
+// The desk: it reads two coefficient books, a fugitive table and a sheet, or a bundle of sheets, and accounts for the lines. It relies on
+// the crates below it only through their promises and public laws.
 mod account;
 pub mod book;
+pub mod books;
 pub mod cells;
 pub mod declare;
 mod dust;

@@ -2,7 +2,7 @@
 ghost use mathlib.Core.Path.{_≡_};
 ghost use Prim.Native.Nat.{_≤_, _+_};
 ghost use lib.ListN.{length};
-ghost use Rattle.desk.specs.Inner.{LineIn, LineThere, ReadsLine};
+ghost use Rattle.desk.specs.Inner.{LineIn, LineThere};
 ghost use Rattle.desk.specs.Line.{floatAt, readingAt, gradesAt, lineOf};
 ghost use Rattle.desk.specs.Found.{sheetLine};
 ghost use Rattle.desk.specs.Sheet.{lineStart};
@@ -89,7 +89,7 @@ fn grades_at(s: &[u8], at: usize) -> Grades
 // that asks for lines.
 pub(crate) fn line_of(s: &[u8], i: usize, reading: Reading) -> Line
     requires { ⌜ LineThere (now s) i × (reading ≡ readingAt (now s) (lineStart (now s) i)) ⌝ }
-    ensures { λ r. ⌜ ReadsLine r (lineOf (now (s .entry)) i) ⌝ }
+    ensures { λ r. ⌜ r ≡ lineOf (now (s .entry)) i ⌝ }
 {
     let at = line_start(s, i);
     Line {

@@ -6,8 +6,8 @@ ghost use Rattle.search.specs.First.{Finds, first};
 ghost use Rattle.little.specs.Read.{Reads, u32Range};
 ghost use Rattle.headers.specs.Book.{bookHeader, rowCount};
 ghost use Rattle.desk.specs.Book.{rowStart, fieldsOk, bookOk};
-ghost use Rattle.desk.specs.Inner.{counted, RowIn, SmallKey, atScale, Passed, ReadsRow, FindsRow};
-ghost use Rattle.desk.specs.Row.{rowHas, rowIndex, rowAt, rowOf};
+ghost use Rattle.desk.specs.Inner.{counted, RowIn, atScale, Passed, ReadsRow};
+ghost use Rattle.desk.specs.Row.{rowHas, rowIndex, rowAt};
 use super::book::coefficient_at;
 use super::book::row_order;
 use super::book::row_start;
@@ -28,11 +28,6 @@ pub struct Row {
     pub rule: usize,
     pub first: usize,
     pub techniques: usize,
-}
-
-pub enum RowSearch {
-    Hit(Row),
-    Miss,
 }
 
 // Halving brings the search so near to the key; then row after row is looked at.
@@ -80,7 +75,7 @@ fn index_of(b: &[u8], k: Key, scale: usize) -> Found
 }
 
 // The line's key is held once: for all scales another scale is compared in the place of its own.
-fn row_index(b: &[u8], k: Key) -> Found
+pub(crate) fn row_index(b: &[u8], k: Key) -> Found
     requires { ⌜ bookOk (now b) ≡ true ⌝ }
     ensures { λ r. ⌜ Finds r (rowIndex (now (b .entry)) k) counted ⌝ }
 {
@@ -90,7 +85,7 @@ fn row_index(b: &[u8], k: Key) -> Found
     }
 }
 
-fn row_at(b: &[u8], i: usize) -> Row
+pub(crate) fn row_at(b: &[u8], i: usize) -> Row
     requires { ⌜ (i < counted) × RowIn (now b) (rowStart (now b) i) × (fieldsOk (now b) (rowStart (now b) i) ≡ true) ⌝ }
     ensures { λ r. ⌜ ReadsRow r (rowAt (now (b .entry)) i) ⌝ }
 {
@@ -101,15 +96,5 @@ fn row_at(b: &[u8], i: usize) -> Row
         rule: byte_in(b, at, 15),
         first: u16_in(b, at, 20),
         techniques: u16_in(b, at, 22),
-    }
-}
-
-pub(crate) fn row_of(b: &[u8], k: Key) -> RowSearch
-    requires { ⌜ (bookOk (now b) ≡ true) × SmallKey k ⌝ }
-    ensures { λ r. ⌜ FindsRow r (rowOf (now (b .entry)) k) ⌝ }
-{
-    match row_index(b, k) {
-        Found::At(i) => RowSearch::Hit(row_at(b, i)),
-        Found::Nothing => RowSearch::Miss,
     }
 }

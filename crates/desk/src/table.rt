@@ -3,7 +3,7 @@ ghost use mathlib.Core.Path.{_≡_};
 ghost use Prim.Native.Nat.{_<_};
 ghost use Rattle.desk.specs.Lent.{sources, lent};
 ghost use Rattle.desk.specs.Account.{lineOutcome};
-ghost use Rattle.desk.specs.Table.{roomFor, bySources, ExactTable};
+ghost use Rattle.desk.specs.Table.{roomFor, byPublished, bySources, ExactTable};
 ghost use Rattle.desk.specs.Inner.{counted, filesTold, Fillable, Filled};
 use super::account::LineOutcome;
 use super::account::line_outcome;
@@ -34,9 +34,8 @@ fn room_for(lines: usize, room: usize) -> Outcome
     }
 }
 
-// Rules 1 and 13, for a book and a fugitive table of any content and size.
-pub fn by_sources(book: &[u8], fugitive: &[u8]) -> Outcome
-    ensures { λ r. ⌜ r ≡ bySources (sources (now (book .entry)) (now (fugitive .entry))) ⌝ }
+fn by_published(book: &[u8], fugitive: &[u8]) -> Outcome
+    ensures { λ r. ⌜ r ≡ byPublished (now (book .entry)) (now (fugitive .entry)) ⌝ }
 {
     if book_ok(book) {
         if fugitive_ok(fugitive) {
@@ -46,6 +45,17 @@ pub fn by_sources(book: &[u8], fugitive: &[u8]) -> Outcome
         }
     } else {
         Outcome::RefusedFile(FileFault::BookMalformed)
+    }
+}
+
+// Rules 1 and 13, for books and a fugitive table of any content and size. Rule 1 is for either book, the works' own first.
+pub fn by_sources(own: &[u8], book: &[u8], fugitive: &[u8]) -> Outcome
+    ensures { λ r. ⌜ r ≡ bySources (sources (now (own .entry)) (now (book .entry)) (now (fugitive .entry))) ⌝ }
+{
+    if book_ok(own) {
+        by_published(book, fugitive)
+    } else {
+        Outcome::RefusedFile(FileFault::OwnBookMalformed)
     }
 }
 
@@ -63,15 +73,22 @@ pub(crate) fn by_files(told: Outcome, s: &[u8], room: usize) -> Outcome
 }
 
 // The lines from 1 up, and the row of sums; or zeros and the first refusal.
-pub(crate) fn fill(b: &[u8], f: &[u8], s: &[u8], lines: usize, exact: &mut [u64]) -> Outcome
-    requires { ⌜ Fillable (lent (sources (now b) (now f)) (now s)) lines (now exact) ⌝ }
-    ensures { λ r. ⌜ Filled lines (lineOutcome (lent (sources (now (b .entry)) (now (f .entry))) (now (s .entry))))
+pub(crate) fn fill(
+    own: &[u8],
+    b: &[u8],
+    f: &[u8],
+    s: &[u8],
+    lines: usize,
+    exact: &mut [u64],
+) -> Outcome
+    requires { ⌜ Fillable (lent (sources (now own) (now b) (now f)) (now s)) lines (now exact) ⌝ }
+    ensures { λ r. ⌜ Filled lines (lineOutcome (lent (sources (now (own .entry)) (now (b .entry)) (now (f .entry))) (now (s .entry))))
         (now (exact .entry)) r (now (exact .exit)) ⌝ }
 {
     let mut tally = Tally::start();
     let mut i = 0;
     while i < lines {
-        match line_outcome(b, f, s, i) {
+        match line_outcome(own, b, f, s, i) {
             LineOutcome::Refusal(fault) => {
                 clear(exact);
                 return Outcome::RefusedLine(fault, (i + 1) as u16);
@@ -87,15 +104,21 @@ pub(crate) fn fill(b: &[u8], f: &[u8], s: &[u8], lines: usize, exact: &mut [u64]
     Outcome::Accepted
 }
 
-// The exact table alone, for a book, a fugitive table and a sheet of any content and a result of any size. On refusal every cell is zero;
+// The exact table alone, for books, a fugitive table and a sheet of any content and a result of any size. On refusal every cell is zero;
 // on acceptance the cells past the table keep their values.
-pub fn exact_table(book: &[u8], fugitive: &[u8], sheet: &[u8], exact: &mut [u64]) -> Outcome
-    ensures { λ r. ⌜ ExactTable (lent (sources (now (book .entry)) (now (fugitive .entry))) (now (sheet .entry)))
+pub fn exact_table(
+    own: &[u8],
+    book: &[u8],
+    fugitive: &[u8],
+    sheet: &[u8],
+    exact: &mut [u64],
+) -> Outcome
+    ensures { λ r. ⌜ ExactTable (lent (sources (now (own .entry)) (now (book .entry)) (now (fugitive .entry))) (now (sheet .entry)))
         (now (exact .entry)) r (now (exact .exit)) ⌝ }
 {
-    let refusal = by_files(by_sources(book, fugitive), sheet, exact.len());
+    let refusal = by_files(by_sources(own, book, fugitive), sheet, exact.len());
     if let Outcome::Accepted = refusal {
-        return fill(book, fugitive, sheet, line_count(sheet), exact);
+        return fill(own, book, fugitive, sheet, line_count(sheet), exact);
     }
     clear(exact);
     refusal

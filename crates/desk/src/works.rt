@@ -19,6 +19,7 @@ use little::cells::clear;
 // Sheet i is lent its own run of each result, and nothing else of them.
 fn declare_sheet(
     told: Outcome,
+    own: &[u8],
     book: &[u8],
     fugitive: &[u8],
     bundle: &[u8],
@@ -26,8 +27,8 @@ fn declare_sheet(
     exact: &mut [u64],
     shown: &mut [u64],
 ) -> Outcome
-    requires { ⌜ SheetReady told (sources (now book) (now fugitive)) (now bundle) i (now exact) (now shown) ⌝ }
-    ensures { λ r. ⌜ SheetDone (sources (now (book .entry)) (now (fugitive .entry))) (now (bundle .entry)) i
+    requires { ⌜ SheetReady told (sources (now own) (now book) (now fugitive)) (now bundle) i (now exact) (now shown) ⌝ }
+    ensures { λ r. ⌜ SheetDone (sources (now (own .entry)) (now (book .entry)) (now (fugitive .entry))) (now (bundle .entry)) i
         (now (exact .entry)) (now (shown .entry)) r (now (exact .exit)) (now (shown .exit)) ⌝ }
 {
     let cells = cells_per_sheet(bundle);
@@ -35,6 +36,7 @@ fn declare_sheet(
     let to = from + cells;
     declare_told(
         told,
+        own,
         book,
         fugitive,
         sheet_of(bundle, i),
@@ -45,6 +47,7 @@ fn declare_sheet(
 
 // The sources are looked at once for all sheets.
 fn each_sheet(
+    own: &[u8],
     book: &[u8],
     fugitive: &[u8],
     bundle: &[u8],
@@ -53,23 +56,24 @@ fn each_sheet(
     outcomes: &mut [u64],
 )
     requires { ⌜ roomy (now bundle) (length (now exact)) (length (now shown)) (length (now outcomes)) ≡ true ⌝ }
-    ensures { λ _. ⌜ SheetBySheet (sources (now (book .entry)) (now (fugitive .entry))) (now (bundle .entry))
+    ensures { λ _. ⌜ SheetBySheet (sources (now (own .entry)) (now (book .entry)) (now (fugitive .entry))) (now (bundle .entry))
         (results (now (exact .entry)) (now (shown .entry)) (now (outcomes .entry)))
         (results (now (exact .exit)) (now (shown .exit)) (now (outcomes .exit))) ⌝ }
 {
-    let told = by_sources(book, fugitive);
+    let told = by_sources(own, book, fugitive);
     let sheets = sheet_count(bundle);
     let mut i = 0;
     while i < sheets {
-        let outcome = declare_sheet(told, book, fugitive, bundle, i, exact, shown);
+        let outcome = declare_sheet(told, own, book, fugitive, bundle, i, exact, shown);
         outcomes[i] = outcome.code();
         i += 1;
     }
 }
 
-// Every sheet's figures or refusal, for a book, a fugitive table and a bundle of any content, results and outcomes of any size. A refusal
+// Every sheet's figures or refusal, for books, a fugitive table and a bundle of any content, results and outcomes of any size. A refusal
 // of the whole comes before anything else and zeroes all that is lent; a sheet's own refusal zeroes its runs only.
 pub fn declare_bundle(
+    own: &[u8],
     book: &[u8],
     fugitive: &[u8],
     bundle: &[u8],
@@ -77,13 +81,13 @@ pub fn declare_bundle(
     shown: &mut [u64],
     outcomes: &mut [u64],
 ) -> BundleOutcome
-    ensures { λ r. ⌜ BundleDeclared (sources (now (book .entry)) (now (fugitive .entry))) (now (bundle .entry))
+    ensures { λ r. ⌜ BundleDeclared (sources (now (own .entry)) (now (book .entry)) (now (fugitive .entry))) (now (bundle .entry))
         (results (now (exact .entry)) (now (shown .entry)) (now (outcomes .entry))) r
         (results (now (exact .exit)) (now (shown .exit)) (now (outcomes .exit))) ⌝ }
 {
     let whole = bundle_outcome(bundle, exact.len(), shown.len(), outcomes.len());
     if let BundleOutcome::Taken = whole {
-        each_sheet(book, fugitive, bundle, exact, shown, outcomes);
+        each_sheet(own, book, fugitive, bundle, exact, shown, outcomes);
         return whole;
     }
     clear(exact);

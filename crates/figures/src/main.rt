@@ -10,6 +10,7 @@ fn main() {
     runs::runs();
     runs::limit_runs();
     runs::fugitive_runs();
+    runs::own_runs();
     runs::bundle_runs();
     runs::typed_runs();
 }

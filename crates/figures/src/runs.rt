@@ -1,220 +1,162 @@
 // The desk over the folders of data/: each has a book, a fugitive table and a sheet, which may be typed, or a bundle, and the listing that
-// `make-files` made them from, or what was changed.
+// `make-files` made them from, or what was changed. A works with factors of its own has its own book, too.
 use super::print::say;
+use headers::book::NO_ROWS;
 use headers::house::MOST_BYTES;
 use little::part::part;
+use numerals::bytes::lay;
 use report::MOST_BUNDLE_TEXT;
-use report::MOST_TEXT;
 use report::Written;
 use report::report;
 use report::report_bundle;
 use report::report_text;
 
-fn answer(book: &[u8], fugitive: &[u8], sheet: &[u8]) {
-    let mut text = [0u8; MOST_TEXT];
-    if let Written::Bytes(bytes) = report(book, fugitive, sheet, &mut text) {
-        say(part(&text, 0, bytes));
+// What the desk is given beside the books and the fugitive table.
+enum Given {
+    Sheet,
+    Bundle,
+    Typed,
+}
+
+fn report_given(
+    given: Given,
+    own: &[u8],
+    book: &[u8],
+    fugitive: &[u8],
+    file: &[u8],
+    text: &mut [u8],
+) -> Written {
+    match given {
+        Given::Sheet => report(own, book, fugitive, file, text),
+        Given::Bundle => report_bundle(own, book, fugitive, file, text),
+        Given::Typed => report_text(own, book, fugitive, file, text),
     }
 }
 
-fn answer_bundle(book: &[u8], fugitive: &[u8], bundle: &[u8]) {
+fn answer(given: Given, own: &[u8], book: &[u8], fugitive: &[u8], file: &[u8]) {
     let mut text = [0u8; MOST_BUNDLE_TEXT];
-    if let Written::Bytes(bytes) = report_bundle(book, fugitive, bundle, &mut text) {
+    let written = report_given(given, own, book, fugitive, file, &mut text);
+    if let Written::Bytes(bytes) = written {
         say(part(&text, 0, bytes));
     }
 }
 
-fn answer_typed(book: &[u8], fugitive: &[u8], typed: &[u8]) {
-    let mut text = [0u8; MOST_TEXT];
-    if let Written::Bytes(bytes) = report_text(book, fugitive, typed, &mut text) {
-        say(part(&text, 0, bytes));
+// No folder and no file has a longer name.
+const LONGEST_NAME: usize = 30;
+
+// Writes the path of a folder's file, and answers how long it is; none where a name is longer.
+fn path_of(folder: &[u8], file: &[u8], path: &mut [u8]) -> usize {
+    let folder_bytes = folder.len();
+    let file_bytes = file.len();
+    if (LONGEST_NAME < folder_bytes) | (LONGEST_NAME < file_bytes) {
+        return 0;
     }
+    lay(path, 0, folder);
+    lay(path, folder_bytes, b"/");
+    lay(path, folder_bytes + 1, file);
+    folder_bytes + 1 + file_bytes
 }
 
 // A file that is not there is read as no bytes.
-fn load(path: &[u8], room: &mut [u8]) -> usize {
-    let file = os::open_read(path);
-    let bytes = io::read_full(file, room);
-    libc::close(file);
+fn load(folder: &[u8], file: &[u8], room: &mut [u8]) -> usize {
+    let mut path = [0u8; 2 * LONGEST_NAME + 1];
+    let path_bytes = path_of(folder, file, &mut path);
+    let opened = os::open_read(part(&path, 0, path_bytes));
+    let bytes = io::read_full(opened, room);
+    libc::close(opened);
     bytes
 }
 
-fn name(path: &[u8]) {
+// A works without a book of its own lends one without rows.
+fn load_own(folder: &[u8], room: &mut [u8]) -> usize {
+    let bytes = load(folder, b"own.bin", room);
+    if bytes == 0 {
+        lay(room, 0, &NO_ROWS)
+    } else {
+        bytes
+    }
+}
+
+fn name(folder: &[u8], file: &[u8]) {
     say(b"run ");
-    say(path);
+    say(folder);
+    say(b"/");
+    say(file);
     say(b"\n");
 }
 
-// Prints the folder's sheet by its path, and what the desk answers.
-fn run(book_path: &[u8], fugitive_path: &[u8], sheet_path: &[u8]) {
+// Prints the path of what is given, and what the desk answers.
+fn run_given(given: Given, folder: &[u8], file: &[u8]) {
+    let mut own = [0u8; MOST_BYTES];
     let mut book = [0u8; MOST_BYTES];
     let mut fugitive = [0u8; MOST_BYTES];
-    let mut sheet = [0u8; MOST_BYTES];
-    let book_bytes = load(book_path, &mut book);
-    let fugitive_bytes = load(fugitive_path, &mut fugitive);
-    let sheet_bytes = load(sheet_path, &mut sheet);
-    name(sheet_path);
+    let mut content = [0u8; MOST_BYTES];
+    let own_bytes = load_own(folder, &mut own);
+    let book_bytes = load(folder, b"book.bin", &mut book);
+    let fugitive_bytes = load(folder, b"fugitive.bin", &mut fugitive);
+    let content_bytes = load(folder, file, &mut content);
+    name(folder, file);
     answer(
+        given,
+        part(&own, 0, own_bytes),
         part(&book, 0, book_bytes),
         part(&fugitive, 0, fugitive_bytes),
-        part(&sheet, 0, sheet_bytes),
+        part(&content, 0, content_bytes),
     );
 }
 
-// Likewise its bundle.
-fn run_bundle(book_path: &[u8], fugitive_path: &[u8], bundle_path: &[u8]) {
-    let mut book = [0u8; MOST_BYTES];
-    let mut fugitive = [0u8; MOST_BYTES];
-    let mut bundle = [0u8; MOST_BYTES];
-    let book_bytes = load(book_path, &mut book);
-    let fugitive_bytes = load(fugitive_path, &mut fugitive);
-    let bundle_bytes = load(bundle_path, &mut bundle);
-    name(bundle_path);
-    answer_bundle(
-        part(&book, 0, book_bytes),
-        part(&fugitive, 0, fugitive_bytes),
-        part(&bundle, 0, bundle_bytes),
-    );
+fn run(folder: &[u8]) {
+    run_given(Given::Sheet, folder, b"sheet.bin");
 }
 
-// Likewise its typed sheet.
-fn run_typed(book_path: &[u8], fugitive_path: &[u8], typed_path: &[u8]) {
-    let mut book = [0u8; MOST_BYTES];
-    let mut fugitive = [0u8; MOST_BYTES];
-    let mut typed = [0u8; MOST_BYTES];
-    let book_bytes = load(book_path, &mut book);
-    let fugitive_bytes = load(fugitive_path, &mut fugitive);
-    let typed_bytes = load(typed_path, &mut typed);
-    name(typed_path);
-    answer_typed(
-        part(&book, 0, book_bytes),
-        part(&fugitive, 0, fugitive_bytes),
-        part(&typed, 0, typed_bytes),
-    );
+fn run_bundle(folder: &[u8]) {
+    run_given(Given::Bundle, folder, b"bundle.bin");
+}
+
+fn run_typed(folder: &[u8]) {
+    run_given(Given::Typed, folder, b"sheet.csv");
 }
 
 pub(crate) fn runs() {
-    run(
-        b"document-000/book.bin",
-        b"document-000/fugitive.bin",
-        b"document-000/sheet.bin",
-    );
-    run(
-        b"document-002/book.bin",
-        b"document-002/fugitive.bin",
-        b"document-002/sheet.bin",
-    );
-    run(
-        b"energy/book.bin",
-        b"energy/fugitive.bin",
-        b"energy/sheet.bin",
-    );
-    run(
-        b"two-halves/book.bin",
-        b"two-halves/fugitive.bin",
-        b"two-halves/sheet.bin",
-    );
+    run(b"document-000");
+    run(b"document-002");
+    run(b"energy");
+    run(b"two-halves");
 }
 
 // At the limits, and over each of them.
 pub(crate) fn limit_runs() {
-    run(
-        b"limits/book.bin",
-        b"limits/fugitive.bin",
-        b"limits/sheet.bin",
-    );
-    run(
-        b"over-hours/book.bin",
-        b"over-hours/fugitive.bin",
-        b"over-hours/sheet.bin",
-    );
-    run(
-        b"over-kilograms/book.bin",
-        b"over-kilograms/fugitive.bin",
-        b"over-kilograms/sheet.bin",
-    );
-    run(
-        b"over-production/book.bin",
-        b"over-production/fugitive.bin",
-        b"over-production/sheet.bin",
-    );
-    run(
-        b"over-rating/book.bin",
-        b"over-rating/fugitive.bin",
-        b"over-rating/sheet.bin",
-    );
+    run(b"limits");
+    run(b"over-hours");
+    run(b"over-kilograms");
+    run(b"over-production");
+    run(b"over-rating");
 }
 
 pub(crate) fn fugitive_runs() {
-    run(
-        b"fugitive/book.bin",
-        b"fugitive/fugitive.bin",
-        b"fugitive/sheet.bin",
-    );
-    run(
-        b"fugitive-no-entry/book.bin",
-        b"fugitive-no-entry/fugitive.bin",
-        b"fugitive-no-entry/sheet.bin",
-    );
-    run(
-        b"fugitive-in-water/book.bin",
-        b"fugitive-in-water/fugitive.bin",
-        b"fugitive-in-water/sheet.bin",
-    );
-    run(
-        b"fugitive-bad-table/book.bin",
-        b"fugitive-bad-table/fugitive.bin",
-        b"fugitive-bad-table/sheet.bin",
-    );
+    run(b"fugitive");
+    run(b"fugitive-no-entry");
+    run(b"fugitive-in-water");
+    run(b"fugitive-bad-table");
+}
+
+pub(crate) fn own_runs() {
+    run(b"own-kiln");
+    run(b"own-neither");
+    run(b"own-bad-book");
 }
 
 pub(crate) fn bundle_runs() {
-    run_bundle(
-        b"bundle-works/book.bin",
-        b"bundle-works/fugitive.bin",
-        b"bundle-works/bundle.bin",
-    );
-    run_bundle(
-        b"bundle-none/book.bin",
-        b"bundle-none/fugitive.bin",
-        b"bundle-none/bundle.bin",
-    );
-    run_bundle(
-        b"bundle-short-run/book.bin",
-        b"bundle-short-run/fugitive.bin",
-        b"bundle-short-run/bundle.bin",
-    );
-    run_bundle(
-        b"bundle-bad-book/book.bin",
-        b"bundle-bad-book/fugitive.bin",
-        b"bundle-bad-book/bundle.bin",
-    );
-    run_bundle(
-        b"bundle-over-room/book.bin",
-        b"bundle-over-room/fugitive.bin",
-        b"bundle-over-room/bundle.bin",
-    );
-    run_bundle(
-        b"bundle-overlapping/book.bin",
-        b"bundle-overlapping/fugitive.bin",
-        b"bundle-overlapping/bundle.bin",
-    );
+    run_bundle(b"bundle-works");
+    run_bundle(b"bundle-none");
+    run_bundle(b"bundle-short-run");
+    run_bundle(b"bundle-bad-book");
+    run_bundle(b"bundle-over-room");
+    run_bundle(b"bundle-overlapping");
 }
 
 pub(crate) fn typed_runs() {
-    run_typed(
-        b"typed-foundry/book.bin",
-        b"typed-foundry/fugitive.bin",
-        b"typed-foundry/sheet.csv",
-    );
-    run_typed(
-        b"typed-hours-over/book.bin",
-        b"typed-hours-over/fugitive.bin",
-        b"typed-hours-over/sheet.csv",
-    );
-    run_typed(
-        b"typed-line-feeds/book.bin",
-        b"typed-line-feeds/fugitive.bin",
-        b"typed-line-feeds/sheet.csv",
-    );
+    run_typed(b"typed-foundry");
+    run_typed(b"typed-hours-over");
+    run_typed(b"typed-line-feeds");
 }

@@ -13,6 +13,9 @@ pub const ROW_SIZE: usize = 24;
 
 pub const TECHNIQUE_SIZE: usize = 4;
 
+// A book without rows and techniques is its header alone.
+pub const NO_ROWS: [u8; HEADER_SIZE] = [16, 0, 0, 0, 0, 0, 0, 0, 16, 0, 0, 0, 16, 0, 0, 0];
+
 pub const MOST_ROWS: usize = 1024;
 
 pub const MOST_TECHNIQUES: usize = 4096;

@@ -15,7 +15,7 @@ use Rattle.report.specs.declared.Written.{Written}
 use Rattle.report.specs.declared.Written.the-variants.{Bytes, Short}
 use Rattle.report.specs.Report.{writtenOf, textAfter, Wrote}
 use Rattle.report.specs.Inner.{Finished}
-use Rattle.numerals.specs.Laid.{Puts}
+use Rattle.numerals.specs.Laid.{Lays, Puts}
 
 pub wrote-once : (report : List ℕ) (most : ℕ) (text : List ℕ) (r q : Written) (x y : List ℕ) → Wrote report most text r x
     → Wrote report most text q y → (r ≡ q) × (x ≡ y)
@@ -46,6 +46,10 @@ module _ (report : List ℕ) (most : ℕ) (text text' : List ℕ) where
   unfolding textAfter
   bytes-are n p =
       ap (take n) (p .holds) ∙ take-at report (drop n text) n (sym (written-bytes (length report) (length text) n (p .answer)))
+
+-- bytes that are laid at the front, of which there are at most so many
+pub lays-puts : {bytes text text' : List ℕ} {most size r : ℕ} → length bytes ≤ most → Lays bytes size 0 text r text' → Puts bytes most 0 text r text'
+lays-puts few p = record { ends = omega (arith, p .counts); few = few; holds = p .holds }
 
 -- ---- all that was put stands, or nothing does
 

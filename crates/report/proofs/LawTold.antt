@@ -14,7 +14,7 @@ use Rattle.little.specs.Read.{AreBytes}
 use Rattle.settle.proofs.LawShown.{shown-length}
 use Rattle.answers.proofs.LawCode.{code-zero, code-number, code-line}
 use Rattle.answers.specs.Answer.{numberUnit, codeOf}
-use Rattle.answers.specs.declared.answer.FileFault.the-variants.{BookMalformed, FugitiveMalformed, SheetMalformed, TextMalformed, ResultTooShort}
+use Rattle.answers.specs.declared.answer.FileFault.the-variants.{OwnBookMalformed, BookMalformed, FugitiveMalformed, SheetMalformed, TextMalformed, ResultTooShort}
 use Rattle.answers.specs.declared.answer.LineFault.{LineFault}
 use Rattle.answers.specs.declared.answer.Outcome.{Outcome}
 use Rattle.answers.specs.declared.answer.Outcome.the-variants.{Accepted, RefusedFile, RefusedLine}
@@ -47,7 +47,7 @@ module _ (f : Lent) (exact shown : List ℕ) (answer : Outcome) (exact' shown' :
     unfolding shownAfter
     first-shown bytes =
         let n = lineCount (f .sheet) in
-        let size = shown-length (settles f (is-ready ok .sources .book) bytes (is-ready ok .sheet)) in
+        let size = shown-length (settles f (is-ready ok .sources) bytes (is-ready ok .sheet)) in
         let shows = rw ok at (d .tables .shows) in
         ap (take (tableSize n)) shows ∙ take-at (shownOf f) (drop (tableSize n) shown) (tableSize n) (omega (arith, size))
 
@@ -67,6 +67,7 @@ module _ (f : Lent) (exact shown : List ℕ) (answer : Outcome) (exact' shown' :
     where
       go : (o : Outcome) → answer ≡ o → answerText (codeOf o) (f .sheet) exact' shown' ≡ reportFor o f
       go Accepted e = rw (first-exact e, first-shown e bytes) refl
+      go (RefusedFile OwnBookMalformed) e = refl
       go (RefusedFile BookMalformed) e = refl
       go (RefusedFile FugitiveMalformed) e = refl
       go (RefusedFile SheetMalformed) e = refl

@@ -1,4 +1,5 @@
 pub mod Report
 pub mod Bundle
 pub mod Typed
+pub mod Row
 pub mod Inner

@@ -93,14 +93,21 @@ fn tell_sheets(
 }
 
 // The desk is lent room for as many sheets as a bundle may have, each of all lines.
-pub(crate) fn told_bundle(book: &[u8], fugitive: &[u8], bundle: &[u8], text: &mut [u8]) -> usize
-    ensures { λ r. ⌜ Puts (bundleReportOf (sources (now (book .entry)) (now (fugitive .entry))) (now (bundle .entry))) mostBundleText
-        0 (now (text .entry)) r (now (text .exit)) ⌝ }
+pub(crate) fn told_bundle(
+    own: &[u8],
+    book: &[u8],
+    fugitive: &[u8],
+    bundle: &[u8],
+    text: &mut [u8],
+) -> usize
+    ensures { λ r. ⌜ Puts (bundleReportOf (sources (now (own .entry)) (now (book .entry)) (now (fugitive .entry))) (now (bundle .entry)))
+        mostBundleText 0 (now (text .entry)) r (now (text .exit)) ⌝ }
 {
     let mut exact = [0u64; ROOM];
     let mut shown = [0u64; ROOM];
     let mut outcomes = [0u64; MOST_SHEETS];
     let whole = declare_bundle(
+        own,
         book,
         fugitive,
         bundle,

@@ -53,8 +53,8 @@ fn figures(
     shown: &[u64],
 ) -> usize
     requires { ⌜ (lines ≤ mostLines) × (at + mostText ≤ reach) ⌝ }
-    ensures { λ r. ⌜ Puts (figuresText lines unit (now (exact .entry)) (now (shown .entry))) mostText
-        at (now (text .entry)) r (now (text .exit)) ⌝ }
+    ensures { λ r. ⌜ Puts (figuresText lines unit (now (exact .entry)) (now (shown .entry)))
+        mostText at (now (text .entry)) r (now (text .exit)) ⌝ }
 {
     let first = table(text, at, b"exact", exact, lines);
     let second = unit_line(text, first, unit);
@@ -82,8 +82,8 @@ pub(crate) fn tell(
     shown: &[u64],
 ) -> usize
     requires { ⌜ Tellable at code (now sheet) ⌝ }
-    ensures { λ r. ⌜ Puts (answerText code (now (sheet .entry)) (now (exact .entry)) (now (shown .entry))) mostText
-        at (now (text .entry)) r (now (text .exit)) ⌝ }
+    ensures { λ r. ⌜ Puts (answerText code (now (sheet .entry)) (now (exact .entry)) (now (shown .entry)))
+        mostText at (now (text .entry)) r (now (text .exit)) ⌝ }
 {
     if code == 0 {
         let lines = line_count(sheet);
@@ -107,24 +107,33 @@ pub(crate) fn tell_refusal(refused: Outcome, text: &mut [u8]) -> usize
 }
 
 // The desk is lent results with room for every sheet.
-pub(crate) fn told(book: &[u8], fugitive: &[u8], sheet: &[u8], text: &mut [u8]) -> usize
-    ensures { λ r. ⌜ Puts (reportOf (lent (sources (now (book .entry)) (now (fugitive .entry))) (now (sheet .entry)))) mostText
-        0 (now (text .entry)) r (now (text .exit)) ⌝ }
+pub(crate) fn told(own: &[u8], book: &[u8], fugitive: &[u8], sheet: &[u8], text: &mut [u8]) -> usize
+    ensures { λ r. ⌜ Puts (reportOf (lent (sources (now (own .entry)) (now (book .entry)) (now (fugitive .entry))) (now (sheet .entry))))
+        mostText 0 (now (text .entry)) r (now (text .exit)) ⌝ }
 {
     let mut exact = [0u64; MOST_CELLS];
     let mut shown = [0u64; MOST_CELLS];
-    let outcome = declare(book, fugitive, sheet, &mut exact, &mut shown);
+    let outcome = declare(own, book, fugitive, sheet, &mut exact, &mut shown);
     tell(text, 0, sheet, outcome.code(), &exact, &shown)
 }
 
 // A sheet that was typed is read into bytes that have room for every one.
-pub(crate) fn told_text(book: &[u8], fugitive: &[u8], typed: &[u8], text: &mut [u8]) -> usize
-    ensures { λ r. ⌜ Puts (textReportOf (sources (now (book .entry)) (now (fugitive .entry))) (now (typed .entry))) mostText
-        0 (now (text .entry)) r (now (text .exit)) ⌝ }
+pub(crate) fn told_text(
+    own: &[u8],
+    book: &[u8],
+    fugitive: &[u8],
+    typed: &[u8],
+    text: &mut [u8],
+) -> usize
+    ensures { λ r. ⌜ Puts (textReportOf (sources (now (own .entry)) (now (book .entry)) (now (fugitive .entry))) (now (typed .entry)))
+        mostText 0 (now (text .entry)) r (now (text .exit)) ⌝ }
 {
     let mut sheet = [0u8; MOST_SHEET];
     match sheet_from_text(typed, &mut sheet) {
-        Converted::Bytes(bytes) => told(book, fugitive, part(&sheet, 0, bytes), text),
-        Converted::Refused(refused) => tell_refusal(sources_first(book, fugitive, refused), text),
+        Converted::Bytes(bytes) => told(own, book, fugitive, part(&sheet, 0, bytes), text),
+        Converted::Refused(refused) => tell_refusal(
+            sources_first(own, book, fugitive, refused),
+            text,
+        ),
     }
 }

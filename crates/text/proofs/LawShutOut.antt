@@ -21,7 +21,7 @@ use Rattle.numerals.specs.declared.typed.Typed.{Typed}
 use Rattle.numerals.specs.declared.typed.Typed.the-variants.{Is, Malformed}
 use Rattle.records.specs.Records.{comma, quote, carriageReturn, lineFeed, pieces, ended, recordsOf, isQuoted, contentOf}
 use Rattle.answers.specs.declared.answer.FileFault.{FileFault}
-use Rattle.answers.specs.declared.answer.FileFault.the-variants.{BookMalformed, FugitiveMalformed, SheetMalformed, TextMalformed, ResultTooShort}
+use Rattle.answers.specs.declared.answer.FileFault.the-variants.{OwnBookMalformed, BookMalformed, FugitiveMalformed, SheetMalformed, TextMalformed, ResultTooShort}
 use Rattle.answers.specs.declared.answer.LineFault.the-variants.{BadReading}
 use Rattle.answers.specs.declared.answer.Outcome.{Outcome}
 use Rattle.answers.specs.declared.answer.Outcome.the-variants.{Accepted, RefusedFile, RefusedLine}
@@ -33,7 +33,7 @@ use Rattle.desk.specs.Line.{lineOf}
 use Rattle.desk.specs.Lent.{Sources, lent}
 use Rattle.desk.specs.Cells.{tableSize}
 use Rattle.desk.specs.Account.{lineOutcome}
-use Rattle.desk.specs.Table.{bySources, bySheet, orNext, byFiles, orLine, byLines, answerOf}
+use Rattle.desk.specs.Table.{byPublished, bySources, bySheet, orNext, byFiles, orLine, byLines, answerOf}
 use Rattle.desk.specs.declared.line.Line.{Line}
 use Rattle.desk.specs.declared.account.LineOutcome.{LineOutcome}
 use Rattle.desk.specs.declared.account.LineOutcome.the-variants.{Given, Refusal}
@@ -361,25 +361,24 @@ no-file (suc n) l fault e = go (byLines n l) (l n) (no-file n l fault) e
     go (RefusedFile f) line other h = other h
     go (RefusedLine f i) line other h = clash (cc)
 
--- of the sources only the book and the fugitive table are refused
-source-refusal : (from : Sources) (fault : FileFault) → bySources from ≡ RefusedFile fault → (fault ≡ BookMalformed) ⊎ (fault ≡ FugitiveMalformed)
-unfolding bySources
-source-refusal from fault e =
-    either-way (bookOk (from .book))
+-- sources are refused with 1 or 13
+sources-no-two : (from : Sources) → bySources from ≡ RefusedFile SheetMalformed → ⊥
+unfolding bySources byPublished
+sources-no-two from e =
+    either-way (bookOk (from .own))
+    (λ o. either-way (bookOk (from .book))
     (λ b. either-way (fugitiveOk (from .fugitive))
-    (λ f. let z : Accepted ≡ RefusedFile fault = rw (b, f) at e in clash (cc))
-    (λ f. let z : RefusedFile FugitiveMalformed ≡ RefusedFile fault = rw (b, f) at e in inr (cc)))
-    (λ b. let z : RefusedFile BookMalformed ≡ RefusedFile fault = rw b at e in inl (cc))
+    (λ f. let z : Accepted ≡ RefusedFile SheetMalformed = rw (o, b, f) at e in clash (cc))
+    (λ f. let z : RefusedFile FugitiveMalformed ≡ RefusedFile SheetMalformed = rw (o, b, f) at e in clash (cc)))
+    (λ b. let z : RefusedFile BookMalformed ≡ RefusedFile SheetMalformed = rw (o, b) at e in clash (cc)))
+    (λ o. let z : RefusedFile OwnBookMalformed ≡ RefusedFile SheetMalformed = rw o at e in clash (cc))
 
--- so 2 is not among them
 no-two : (from : Sources) (next : Outcome) → (next ≡ RefusedFile SheetMalformed → ⊥) → orNext (bySources from) next ≡ RefusedFile SheetMalformed → ⊥
 no-two from next other e = go (bySources from) refl e
   where
     go : (first : Outcome) → bySources from ≡ first → orNext first next ≡ RefusedFile SheetMalformed → ⊥
     go Accepted is h = other h
-    go (RefusedFile fault) is h =
-        let two : fault ≡ SheetMalformed = cc in
-        ⊎-elim (λ (q : fault ≡ BookMalformed). clash (cc)) (λ (q : fault ≡ FugitiveMalformed). clash (cc)) (source-refusal from fault is)
+    go (RefusedFile fault) is h = sources-no-two from (is ∙ h)
     go (RefusedLine fault line) is h = clash (cc)
 
 module _ (from : Sources) where

@@ -10,7 +10,7 @@ use Rattle.desk.specs.Declare.{Declared}
 use Rattle.text.specs.Convert.{Made, Gives, Refuses}
 use Rattle.text.specs.Read.{sheetOfText}
 
--- what is wrong with the text, unless it is the book or the fugitive table
+-- what is wrong with the text, unless it is a book or the fugitive table
 abbrev pub sourcesFirst : (from : Sources) (refusal : Outcome) → Outcome
 sourcesFirst from refusal = orNext (bySources from) refusal
 

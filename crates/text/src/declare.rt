@@ -12,10 +12,10 @@ use little::cells::clear;
 use little::part::part;
 
 // Rules 1 and 13 come before what is wrong with the text.
-pub fn sources_first(book: &[u8], fugitive: &[u8], refusal: Outcome) -> Outcome
-    ensures { λ r. ⌜ r ≡ sourcesFirst (sources (now (book .entry)) (now (fugitive .entry))) refusal ⌝ }
+pub fn sources_first(own: &[u8], book: &[u8], fugitive: &[u8], refusal: Outcome) -> Outcome
+    ensures { λ r. ⌜ r ≡ sourcesFirst (sources (now (own .entry)) (now (book .entry)) (now (fugitive .entry))) refusal ⌝ }
 {
-    let told = by_sources(book, fugitive);
+    let told = by_sources(own, book, fugitive);
     if let Outcome::Accepted = told {
         return refusal;
     }
@@ -23,36 +23,45 @@ pub fn sources_first(book: &[u8], fugitive: &[u8], refusal: Outcome) -> Outcome
 }
 
 fn no_sheet(
+    own: &[u8],
     book: &[u8],
     fugitive: &[u8],
     refusal: Outcome,
     exact: &mut [u64],
     shown: &mut [u64],
 ) -> Outcome
-    ensures { λ r. ⌜ NoSheet (sources (now (book .entry)) (now (fugitive .entry))) refusal
+    ensures { λ r. ⌜ NoSheet (sources (now (own .entry)) (now (book .entry)) (now (fugitive .entry))) refusal
         (now (exact .entry)) (now (shown .entry)) r (now (exact .exit)) (now (shown .exit)) ⌝ }
 {
     clear(exact);
     clear(shown);
-    sources_first(book, fugitive, refusal)
+    sources_first(own, book, fugitive, refusal)
 }
 
-// Figures, or one refusal, for a book, a fugitive table and a text of any content and results of any size: 1, 13, 12, 3, then the lines.
+// Figures, or one refusal, for books, a fugitive table and a text of any content and results of any size: 1, 13, 12, 3, then the lines.
 // The sheet is read into bytes of its own, which always have room. On refusal every cell of both results is zero; on acceptance the cells
 // past the tables keep their values.
 pub fn declare_text(
+    own: &[u8],
     book: &[u8],
     fugitive: &[u8],
     text: &[u8],
     exact: &mut [u64],
     shown: &mut [u64],
 ) -> Outcome
-    ensures { λ r. ⌜ DeclaredText (sources (now (book .entry)) (now (fugitive .entry))) (now (text .entry))
+    ensures { λ r. ⌜ DeclaredText (sources (now (own .entry)) (now (book .entry)) (now (fugitive .entry))) (now (text .entry))
         (now (exact .entry)) (now (shown .entry)) r (now (exact .exit)) (now (shown .exit)) ⌝ }
 {
     let mut sheet = [0u8; MOST_SHEET];
     match sheet_from_text(text, &mut sheet) {
-        Converted::Bytes(bytes) => declare(book, fugitive, part(&sheet, 0, bytes), exact, shown),
-        Converted::Refused(refusal) => no_sheet(book, fugitive, refusal, exact, shown),
+        Converted::Bytes(bytes) => declare(
+            own,
+            book,
+            fugitive,
+            part(&sheet, 0, bytes),
+            exact,
+            shown,
+        ),
+        Converted::Refused(refusal) => no_sheet(own, book, fugitive, refusal, exact, shown),
     }
 }

@@ -1,9 +1,10 @@
 //! Compares both desks on cases of any sort for a while, one in ten of them a
-//! bundle and three in ten a text: `long_run [SECONDS] [SEED]`, by default one
-//! minute with seed 1.
+//! bundle, one a row that is asked for, and three in ten a text:
+//! `long_run [SECONDS] [SEED]`, by default one minute with seed 1.
 
 use peer::compare::{keep, AnyCase};
-use peer::make::{any_bundle, any_case, any_conversion, any_text_case, any_there_and_back, Random};
+use peer::make::{any_bundle, any_case, any_conversion, any_row_case};
+use peer::make::{any_text_case, any_there_and_back, Random};
 use std::process::ExitCode;
 use std::time::{Duration, Instant};
 
@@ -35,6 +36,7 @@ fn run(length: Duration, seed: u64) -> (u64, u64) {
             1 => agrees(&any_text_case(&mut random)),
             2 => agrees(&any_conversion(&mut random)),
             3 => agrees(&any_there_and_back(&mut random)),
+            4 => agrees(&any_row_case(&mut random)),
             _ => agrees(&any_case(&mut random)),
         };
         disagreements += u64::from(!agreed);

@@ -1,10 +1,12 @@
-//! Replays one case: `replay FOLDER` with book.bin, fugitive.bin and one of
+//! Replays one case: `replay FOLDER` with own.bin, book.bin, fugitive.bin and one of
 //! sheet.bin, bundle.bin and sheet.csv, and lengths.txt where the lengths of what is
-//! lent matter. A fugitive.bin that isn't there counts as empty. A sheet.csv without
-//! a book is only read, a sheet.bin only written.
+//! lent matter. Without own.bin the works has no factors of its own; a fugitive.bin
+//! that isn't there counts as empty. A sheet.csv without a book is only read, a
+//! sheet.bin only written. With asked.txt, the seven numbers of a row, that row is
+//! asked for.
 
 use peer::compare::{run_plain, run_proved, AnyCase, BundleCase, Case, Filled};
-use peer::compare::{Conversion, Converted, TextCase, ThereAndBack};
+use peer::compare::{Conversion, Converted, Inspected, RowCase, TextCase, ThereAndBack};
 use peer::print::{whole_bundle_output, whole_output};
 use std::path::Path;
 use std::process::ExitCode;
@@ -18,6 +20,8 @@ fn main() -> ExitCode {
     let has = |name: &str| path.join(name).exists();
     let replayed = if !has("book.bin") {
         Conversion::from_folder(path).map(|conversion| replay_conversion(&conversion))
+    } else if has("asked.txt") {
+        RowCase::read(path).map(|case| replay_row(&case))
     } else if has("bundle.bin") {
         BundleCase::read(path).map(|case| replay_bundle(&case))
     } else if has("sheet.csv") && !has("sheet.bin") {
@@ -75,6 +79,18 @@ fn replay_bundle(case: &BundleCase) -> bool {
     let agreed = agree(case);
     print("plain Rust", Ok(whole_bundle_output(case, &case.run_plain())));
     print("proved desk", case.run_proved().map(|filled| whole_bundle_output(case, &filled)));
+    agreed
+}
+
+fn replay_row(case: &RowCase) -> bool {
+    println!("{:?} asked for, {} bytes lent", case.asked, case.room);
+    let agreed = agree(case);
+    let text = |Inspected { number, copied }: Inspected| match copied.answer {
+        Ok(_) => format!("row {number}: {:02x?}\n", copied.bytes()),
+        Err(refused) => format!("row {number}: {refused}\n"),
+    };
+    print("plain Rust", Ok(text(case.run_plain())));
+    print("proved desk", case.run_proved().map(text));
     agreed
 }
 

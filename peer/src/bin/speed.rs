@@ -1,12 +1,13 @@
 //! The benchmark: the proved desk beside plain Rust in one run, on the same
-//! inputs, by turns. Prints a table in markdown: sheets, one of fugitive dust among
-//! them, a full sheet read from text and written as text, a bundle. For a bundle it
-//! prints besides what the same sheets take in calls of their own.
+//! inputs, by turns. Prints a table in markdown: sheets, one of fugitive dust and one
+//! with factors of the works' own among them, a full sheet read from text and written
+//! as text, a bundle. For a bundle it prints besides what the same sheets take in
+//! calls of their own.
 //!
 //! Usage: `speed [ROUNDS [WORD]]`, by default 200 rounds a case, and only the
 //! cases that have the word in their names.
 
-use checkraven::cells_for;
+use checkraven::{cells_for, NO_OWN};
 use peer::compare::{earlier_bytes, earlier_cells, run_plain, AnyCase};
 use peer::compare::{BundleCase, Case, Conversion, Way};
 use peer::make::{Book, Bundle, Entry, Fugitive, Line, Random, Row, Sheet, Technique};
@@ -81,6 +82,10 @@ fn cases() -> Vec<(String, Case)> {
     cases.push(("shown table of 128 loose lines, 1 row".to_string(), loose));
     let name = "dust: 128 lines with three grades, 1,024 entries, 1,024 rows";
     cases.push((name.to_string(), dust_case()));
+    let own = own_case();
+    assert_eq!(lines_of_the_own_book(&own), 64, "each book answers half of the lines");
+    let name = "own factors: 128 lines, half of them in either of two books of 1,024 rows";
+    cases.push((name.to_string(), own));
     cases
 }
 
@@ -158,6 +163,30 @@ fn dust_case() -> Case {
     let lines = full_lines(0.5).into_iter().map(graded).collect();
     let case = Case::of(&full_book_of(2, 3), &Sheet::new(2, 3, 1, lines));
     case.with_fugitive(table.bytes())
+}
+
+/// The full sheet in kilograms under two full books. The own book has twice the
+/// coefficient, the places of every second line, and others that no line has.
+fn own_case() -> Case {
+    let place = |index: u16| match index % 2 {
+        0 => full_place(index),
+        _ => [3401, 1 + index / 32, 1 + index % 32, 1],
+    };
+    let mut own = full_book();
+    for (index, row) in own.rows.iter_mut().enumerate() {
+        (row.place, row.digits) = (place(index as u16), 300);
+    }
+    own.rows.sort_by_key(|row| row.place);
+    full_case(2, 0.5).with_own(own.bytes())
+}
+
+/// By what is generated: twice as much as under the published book alone.
+fn lines_of_the_own_book(case: &Case) -> usize {
+    let alone = run_plain(&case.clone().with_own(NO_OWN.to_vec())).exact;
+    let generated =
+        |exact: Vec<u64>| exact.into_iter().step_by(cells_for(0)).take(case.line_count());
+    let pairs = generated(run_plain(case).exact).zip(generated(alone));
+    pairs.filter(|(with_own, alone)| *with_own == 2 * alone).count()
 }
 
 /// A full sheet by energy, so that all readings are used: its text to be read,
@@ -279,31 +308,33 @@ type Call<C> = fn(&C, &mut Results);
 
 fn call_proved(case: &Case, results: &mut Results) {
     let Results { exact, shown, .. } = results;
-    let [book, fugitive, sheet] = [&case.book, &case.fugitive, &case.sheet].map(black_box);
-    let outcome = checkraven::account(book, fugitive, sheet, exact, shown);
+    let files = [&case.own, &case.book, &case.fugitive, &case.sheet];
+    let [own, book, fugitive, sheet] = files.map(black_box);
+    let outcome = checkraven::account(own, book, fugitive, sheet, exact, shown);
     black_box(outcome.is_accepted());
 }
 
 fn call_plain(case: &Case, results: &mut Results) {
     let Results { exact, shown, .. } = results;
-    let [book, fugitive, sheet] = [&case.book, &case.fugitive, &case.sheet].map(black_box);
-    let answer = plain::account(book, fugitive, sheet, exact, shown);
+    let files = [&case.own, &case.book, &case.fugitive, &case.sheet];
+    let [own, book, fugitive, sheet] = files.map(black_box);
+    let answer = plain::account(own, book, fugitive, sheet, exact, shown);
     black_box(answer.is_ok());
 }
 
 fn call_proved_bundle(works: &Works, results: &mut Results) {
-    let BundleCase { book, fugitive, bundle, .. } = &works.case;
-    let [book, fugitive, bundle] = [book, fugitive, bundle].map(black_box);
+    let BundleCase { own, book, fugitive, bundle, .. } = &works.case;
+    let [own, book, fugitive, bundle] = [own, book, fugitive, bundle].map(black_box);
     let Results { exact, shown, outcomes, .. } = results;
-    let outcome = checkraven::account_bundle(book, fugitive, bundle, exact, shown, outcomes);
+    let outcome = checkraven::account_bundle(own, book, fugitive, bundle, exact, shown, outcomes);
     black_box(outcome.is_accepted());
 }
 
 fn call_plain_bundle(works: &Works, results: &mut Results) {
-    let BundleCase { book, fugitive, bundle, .. } = &works.case;
-    let [book, fugitive, bundle] = [book, fugitive, bundle].map(black_box);
+    let BundleCase { own, book, fugitive, bundle, .. } = &works.case;
+    let [own, book, fugitive, bundle] = [own, book, fugitive, bundle].map(black_box);
     let Results { exact, shown, outcomes, .. } = results;
-    let answer = plain::account_bundle(book, fugitive, bundle, exact, shown, outcomes);
+    let answer = plain::account_bundle(own, book, fugitive, bundle, exact, shown, outcomes);
     black_box(answer.is_ok());
 }
 
@@ -312,8 +343,9 @@ fn call_proved_alone(works: &Works, results: &mut Results) {
     let cells = works.case.cells_per_sheet();
     let runs = results.exact.chunks_exact_mut(cells).zip(results.shown.chunks_exact_mut(cells));
     for (sheet, (exact, shown)) in works.sheets.iter().zip(runs) {
-        let [book, fugitive] = [&works.case.book, &works.case.fugitive].map(black_box);
-        let outcome = checkraven::account(book, fugitive, black_box(sheet), exact, shown);
+        let BundleCase { own, book, fugitive, .. } = &works.case;
+        let [own, book, fugitive, sheet] = [own, book, fugitive, sheet].map(black_box);
+        let outcome = checkraven::account(own, book, fugitive, sheet, exact, shown);
         black_box(outcome.is_accepted());
     }
 }

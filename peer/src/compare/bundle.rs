@@ -3,18 +3,20 @@
 use super::lent::{earlier_cells, Lent};
 use super::{
     check_answers, check_kept, check_lent_cells, check_memory, check_same_cells, check_zero,
-    keep_lengths, kept_lengths, outcome_of, read_fugitive, run_proved_from, AnyCase, Case, Filled,
+    keep_lengths, kept_lengths, outcome_of, read_fugitive, read_own, run_proved_from, AnyCase,
+    Case, Filled,
 };
 use crate::plain;
-use checkraven::{Outcome, MOST_CELLS, MOST_SHEETS, NO_FUGITIVE};
+use checkraven::{Outcome, MOST_CELLS, MOST_SHEETS, NO_FUGITIVE, NO_OWN};
 use std::fs;
 use std::io;
 use std::ops::Range;
 use std::path::Path;
 
-/// A book, a fugitive table, a bundle and the lengths of all that is lent.
+/// Two books, a fugitive table, a bundle and the lengths of all that is lent.
 #[derive(Clone, Debug, Hash)]
 pub struct BundleCase {
+    pub own: Vec<u8>,
     pub book: Vec<u8>,
     pub fugitive: Vec<u8>,
     pub bundle: Vec<u8>,
@@ -35,15 +37,19 @@ pub struct FilledBundle {
 const USUAL_CELLS: usize = MOST_SHEETS * MOST_CELLS;
 
 impl BundleCase {
-    /// A case without fugitive dust and with a little more room than the bundle
-    /// needs, up to what the program lends.
+    /// A case without own factors and without fugitive dust, and with a little more
+    /// room than the bundle needs, up to what the program lends.
     pub fn with_room(book: Vec<u8>, bundle: Vec<u8>) -> Self {
-        let fugitive = NO_FUGITIVE.to_vec();
+        let (own, fugitive) = (NO_OWN.to_vec(), NO_FUGITIVE.to_vec());
         let (exact_len, shown_len, outcomes_len) = (0, 0, 0);
-        let case = BundleCase { book, fugitive, bundle, exact_len, shown_len, outcomes_len };
+        let case = BundleCase { own, book, fugitive, bundle, exact_len, shown_len, outcomes_len };
         let cells = case.sheet_count().saturating_mul(case.cells_per_sheet()).min(USUAL_CELLS);
         let sheets = case.sheet_count().min(MOST_SHEETS);
         case.with_lengths(cells + 3, cells + 5, sheets + 2)
+    }
+
+    pub fn with_own(self, own: Vec<u8>) -> Self {
+        BundleCase { own, ..self }
     }
 
     pub fn with_fugitive(self, fugitive: Vec<u8>) -> Self {
@@ -79,8 +85,8 @@ impl BundleCase {
         let (offset, length) = (self.number(12 + 8 * index), self.number(16 + 8 * index));
         let sheet = self.bundle[offset..offset + length].to_vec();
         let cells = self.cells_per_sheet();
-        let case = Case::with_room(self.book.clone(), sheet).with_fugitive(self.fugitive.clone());
-        case.with_lengths(cells, cells)
+        let case = Case::with_room(self.book.clone(), sheet).with_own(self.own.clone());
+        case.with_fugitive(self.fugitive.clone()).with_lengths(cells, cells)
     }
 
     /// What the bundle's call has left for one sheet.
@@ -96,7 +102,8 @@ impl BundleCase {
     pub fn read(folder: &Path) -> io::Result<Self> {
         let book = fs::read(folder.join("book.bin"))?;
         let bundle = fs::read(folder.join("bundle.bin"))?;
-        let case = BundleCase::with_room(book, bundle).with_fugitive(read_fugitive(folder));
+        let case = BundleCase::with_room(book, bundle).with_own(read_own(folder));
+        let case = case.with_fugitive(read_fugitive(folder));
         match kept_lengths(folder)? {
             Some([exact, shown, outcomes]) => Ok(case.with_lengths(exact, shown, outcomes)),
             None => Ok(case),
@@ -107,23 +114,30 @@ impl BundleCase {
         let mut exact: Vec<u64> = earlier_cells(self.exact_len).collect();
         let mut shown: Vec<u64> = earlier_cells(self.shown_len).collect();
         let mut outcomes: Vec<u64> = earlier_cells(self.outcomes_len).collect();
-        let BundleCase { book, fugitive, bundle, .. } = self;
-        let (exact_cells, shown_cells) = (&mut exact, &mut shown);
-        let answer =
-            plain::account_bundle(book, fugitive, bundle, exact_cells, shown_cells, &mut outcomes);
+        let BundleCase { own, book, fugitive, bundle, .. } = self;
+        let answer = plain::account_bundle(
+            own,
+            book,
+            fugitive,
+            bundle,
+            &mut exact,
+            &mut shown,
+            &mut outcomes,
+        );
         FilledBundle { outcome: outcome_of(answer), exact, shown, outcomes }
     }
 
     /// Runs the proved desk, and checks that nothing around the lent cells and
     /// nothing in or around the files has changed.
     pub fn run_proved(&self) -> Result<FilledBundle, String> {
-        let files = [&self.book, &self.fugitive, &self.bundle];
+        let files = [&self.own, &self.book, &self.fugitive, &self.bundle];
         let lent = files.map(|file| Lent::file(file));
-        let [book, fugitive, bundle] = lent.each_ref().map(Lent::middle);
+        let [own, book, fugitive, bundle] = lent.each_ref().map(Lent::middle);
         let lengths = [self.exact_len, self.shown_len, self.outcomes_len];
         let [mut exact, mut shown, mut outcomes] =
             lengths.map(|length| Lent::cells(earlier_cells(length)));
         let outcome = checkraven::account_bundle(
+            own,
             book,
             fugitive,
             bundle,
@@ -189,6 +203,7 @@ impl AnyCase for BundleCase {
 
     fn write(&self, folder: &Path) -> io::Result<()> {
         fs::create_dir_all(folder)?;
+        fs::write(folder.join("own.bin"), &self.own)?;
         fs::write(folder.join("book.bin"), &self.book)?;
         fs::write(folder.join("fugitive.bin"), &self.fugitive)?;
         fs::write(folder.join("bundle.bin"), &self.bundle)?;

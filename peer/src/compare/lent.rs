@@ -56,6 +56,15 @@ impl<T: Copy + PartialEq> Lent<T> {
     }
 }
 
+/// Puts a file into an area that has 30 bytes more, where its address is so much
+/// modulo 16.
+pub fn at_address<'a>(area: &'a mut [u8], file: &[u8], address: usize) -> &'a [u8] {
+    let begin = area.as_ptr().align_offset(16) + address % 16;
+    let place = &mut area[begin..begin + file.len()];
+    place.copy_from_slice(file);
+    place
+}
+
 /// With PEER_TIGHT set nothing stands around the lent memory, so that a tool
 /// that watches the heap sees reads past the end as well.
 fn margin() -> usize {

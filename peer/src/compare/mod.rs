@@ -2,12 +2,14 @@
 //! they leave behind: the answer, every lent cell or byte and the memory around.
 
 mod bundle;
+pub mod face;
 mod lent;
+mod row;
 mod tally;
 mod text;
 
 use crate::{demand3, plain};
-use checkraven::{cells_for, Outcome, MOST_LINES, NO_FUGITIVE};
+use checkraven::{cells_for, Outcome, MOST_LINES, NO_FUGITIVE, NO_OWN};
 use lent::{earlier_cell, Lent};
 use std::fs;
 use std::hash::{DefaultHasher, Hash, Hasher};
@@ -15,11 +17,12 @@ use std::io;
 use std::path::{Path, PathBuf};
 
 pub use bundle::{BundleCase, FilledBundle};
-pub use lent::{earlier_bytes, earlier_cells};
+pub use lent::{at_address, earlier_bytes, earlier_cells};
+pub use row::{Inspected, RowCase};
 pub use tally::{limited, thinned, Tally};
 pub use text::{Conversion, Converted, TextCase, ThereAndBack, Way};
 
-/// A case of any sort: one sheet, a bundle, a text sheet.
+/// A case of any sort: one sheet, a bundle, a text sheet, a row.
 pub trait AnyCase: Hash {
     /// Compares both desks; the agreed outcome, or what differs.
     fn compare(&self) -> Result<Outcome, String>;
@@ -27,9 +30,10 @@ pub trait AnyCase: Hash {
     fn write(&self, folder: &Path) -> io::Result<()>;
 }
 
-/// Three files and the lengths of the two results.
+/// Four files and the lengths of the two results.
 #[derive(Clone, Debug, Hash)]
 pub struct Case {
+    pub own: Vec<u8>,
     pub book: Vec<u8>,
     pub fugitive: Vec<u8>,
     pub sheet: Vec<u8>,
@@ -38,15 +42,19 @@ pub struct Case {
 }
 
 impl Case {
-    /// A case without fugitive dust whose results have a little more room than the
-    /// sheet needs.
+    /// A case without own factors and without fugitive dust whose results have a
+    /// little more room than the sheet needs.
     pub fn with_room(book: Vec<u8>, sheet: Vec<u8>) -> Self {
-        let fugitive = NO_FUGITIVE.to_vec();
-        let mut case = Case { book, fugitive, sheet, exact_len: 0, shown_len: 0 };
+        let (own, fugitive) = (NO_OWN.to_vec(), NO_FUGITIVE.to_vec());
+        let mut case = Case { own, book, fugitive, sheet, exact_len: 0, shown_len: 0 };
         let cells = cells_for(case.line_count().min(MOST_LINES));
         case.exact_len = cells + 3;
         case.shown_len = cells + 5;
         case
+    }
+
+    pub fn with_own(self, own: Vec<u8>) -> Self {
+        Case { own, ..self }
     }
 
     pub fn with_fugitive(self, fugitive: Vec<u8>) -> Self {
@@ -74,7 +82,8 @@ impl Case {
     pub fn read(folder: &Path) -> io::Result<Self> {
         let book = fs::read(folder.join("book.bin"))?;
         let sheet = fs::read(folder.join("sheet.bin"))?;
-        let case = Case::with_room(book, sheet).with_fugitive(read_fugitive(folder));
+        let case = Case::with_room(book, sheet).with_own(read_own(folder));
+        let case = case.with_fugitive(read_fugitive(folder));
         match kept_lengths(folder)? {
             Some([exact_len, shown_len]) => Ok(case.with_lengths(exact_len, shown_len)),
             None => Ok(case),
@@ -95,6 +104,7 @@ impl AnyCase for Case {
 
     fn write(&self, folder: &Path) -> io::Result<()> {
         fs::create_dir_all(folder)?;
+        fs::write(folder.join("own.bin"), &self.own)?;
         fs::write(folder.join("book.bin"), &self.book)?;
         fs::write(folder.join("fugitive.bin"), &self.fugitive)?;
         fs::write(folder.join("sheet.bin"), &self.sheet)?;
@@ -112,8 +122,8 @@ pub struct Filled {
 pub fn run_plain(case: &Case) -> Filled {
     let mut exact: Vec<u64> = earlier_cells(case.exact_len).collect();
     let mut shown: Vec<u64> = earlier_cells(case.shown_len).collect();
-    let Case { book, fugitive, sheet, .. } = case;
-    let answer = plain::account(book, fugitive, sheet, &mut exact, &mut shown);
+    let Case { own, book, fugitive, sheet, .. } = case;
+    let answer = plain::account(own, book, fugitive, sheet, &mut exact, &mut shown);
     Filled { outcome: outcome_of(answer), exact, shown }
 }
 
@@ -133,13 +143,13 @@ pub fn run_proved(case: &Case) -> Result<Filled, String> {
 /// The same, with results that hold the earlier cells from `first` on.
 fn run_proved_from(case: &Case, first: usize) -> Result<Filled, String> {
     let earlier = |length| (first..first + length).map(earlier_cell);
-    let files = [&case.book, &case.fugitive, &case.sheet];
+    let files = [&case.own, &case.book, &case.fugitive, &case.sheet];
     let lent = files.map(|file| Lent::file(file));
-    let [book, fugitive, sheet] = lent.each_ref().map(Lent::middle);
+    let [own, book, fugitive, sheet] = lent.each_ref().map(Lent::middle);
     let mut exact = Lent::cells(earlier(case.exact_len));
     let mut shown = Lent::cells(earlier(case.shown_len));
     let outcome =
-        checkraven::account(book, fugitive, sheet, exact.middle_mut(), shown.middle_mut());
+        checkraven::account(own, book, fugitive, sheet, exact.middle_mut(), shown.middle_mut());
     check_memory(&lent, &files, &[&exact, &shown])?;
     Ok(Filled { outcome, exact: exact.middle().to_vec(), shown: shown.middle().to_vec() })
 }
@@ -200,6 +210,15 @@ fn check_zero(results: &[&[u64]]) -> Result<(), String> {
 fn check_kept(cells: &[u64], end: usize, first: usize) -> Result<(), String> {
     let kept = (end..cells.len()).all(|at| cells[at] == earlier_cell(first + at));
     kept.then_some(()).ok_or("cells past what is written haven't kept their values".to_string())
+}
+
+/// A folder's own book. A works that has none there has no factors of its own; one
+/// that can't be read counts as empty.
+pub fn read_own(folder: &Path) -> Vec<u8> {
+    match fs::read(folder.join("own.bin")) {
+        Err(error) if error.kind() == io::ErrorKind::NotFound => NO_OWN.to_vec(),
+        read => read.unwrap_or_default(),
+    }
 }
 
 /// A folder's fugitive table, which counts as empty where there is none.

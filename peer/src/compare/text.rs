@@ -4,10 +4,10 @@
 use super::lent::{earlier_bytes, earlier_cells, Lent};
 use super::{
     check_answers, check_lent_cells, check_memory, check_same_cells, keep_lengths, kept_lengths,
-    outcome_of, read_fugitive, run_proved, AnyCase, Case, Filled,
+    outcome_of, read_fugitive, read_own, run_proved, AnyCase, Case, Filled,
 };
 use crate::{plain, rfc4180};
-use checkraven::{Outcome, Refused, MOST_CELLS, MOST_SHEET, MOST_SHEET_TEXT, NO_FUGITIVE};
+use checkraven::{Outcome, Refused, MOST_CELLS, MOST_SHEET, MOST_SHEET_TEXT, NO_FUGITIVE, NO_OWN};
 use std::fs;
 use std::io;
 use std::path::Path;
@@ -36,7 +36,7 @@ pub struct Converted {
 }
 
 impl Converted {
-    fn outcome(&self) -> Outcome {
+    pub(super) fn outcome(&self) -> Outcome {
         self.answer.map_or_else(|refused| refused, |_| Outcome::Accepted)
     }
 
@@ -46,7 +46,7 @@ impl Converted {
     }
 
     /// What lent bytes hold by the paper's rule, whichever desk has filled them.
-    fn check_lent(&self) -> Result<(), String> {
+    pub(super) fn check_lent(&self) -> Result<(), String> {
         let kept = |from: usize| {
             self.lent.iter().zip(earlier_bytes(self.lent.len())).skip(from).all(|(a, b)| *a == b)
         };
@@ -58,6 +58,20 @@ impl Converted {
                 Err("bytes past what is written haven't kept their values".to_string())
             }
             _ => Ok(()),
+        }
+    }
+
+    /// The proved desk's answer and every lent byte beside plain Rust's.
+    pub(super) fn check_same(&self, plain: &Converted) -> Result<(), String> {
+        if self.answer != plain.answer {
+            return Err(format!("proved desk {:?}, plain Rust {:?}", self.answer, plain.answer));
+        }
+        match (0..plain.lent.len()).find(|&at| plain.lent[at] != self.lent[at]) {
+            Some(at) => {
+                let [proved, plain] = [self, plain].map(|converted| converted.lent[at]);
+                Err(format!("byte {at}: proved desk {proved}, plain Rust {plain}"))
+            }
+            None => Ok(()),
         }
     }
 }
@@ -145,19 +159,11 @@ impl Conversion {
     fn agreed(&self) -> Result<Converted, String> {
         let plain = self.run_plain();
         let proved = self.run_proved()?;
-        if proved.answer != plain.answer {
-            return Err(format!("proved desk {:?}, plain Rust {:?}", proved.answer, plain.answer));
-        }
+        proved.check_same(&plain)?;
         self.check_taken(plain.answer)?;
         plain.check_lent().map_err(|fault| format!("plain Rust: {fault}"))?;
         proved.check_lent().map_err(|fault| format!("proved desk: {fault}"))?;
-        match (0..self.room).find(|&at| plain.lent[at] != proved.lent[at]) {
-            Some(at) => {
-                let [proved, plain] = [&proved, &plain].map(|converted| converted.lent[at]);
-                Err(format!("byte {at}: proved desk {proved}, plain Rust {plain}"))
-            }
-            None => Ok(proved),
-        }
+        Ok(proved)
     }
 }
 
@@ -173,9 +179,10 @@ impl AnyCase for Conversion {
     }
 }
 
-/// A book, a fugitive table, a text sheet and the lengths of the two results.
+/// Two books, a fugitive table, a text sheet and the lengths of the two results.
 #[derive(Clone, Debug, Hash)]
 pub struct TextCase {
+    pub own: Vec<u8>,
     pub book: Vec<u8>,
     pub fugitive: Vec<u8>,
     pub text: Vec<u8>,
@@ -184,11 +191,16 @@ pub struct TextCase {
 }
 
 impl TextCase {
-    /// A case without fugitive dust whose results have more room than any sheet
-    /// needs.
+    /// A case without own factors and without fugitive dust whose results have more
+    /// room than any sheet needs.
     pub fn with_room(book: Vec<u8>, text: Vec<u8>) -> Self {
         let (exact_len, shown_len) = (MOST_CELLS + 3, MOST_CELLS + 5);
-        TextCase { book, fugitive: NO_FUGITIVE.to_vec(), text, exact_len, shown_len }
+        let (own, fugitive) = (NO_OWN.to_vec(), NO_FUGITIVE.to_vec());
+        TextCase { own, book, fugitive, text, exact_len, shown_len }
+    }
+
+    pub fn with_own(self, own: Vec<u8>) -> Self {
+        TextCase { own, ..self }
     }
 
     pub fn with_fugitive(self, fugitive: Vec<u8>) -> Self {
@@ -203,15 +215,15 @@ impl TextCase {
     /// none where the text is malformed.
     pub fn with_binary_sheet(&self) -> Case {
         let sheet = Conversion::read(&self.text).run_plain().bytes().to_vec();
-        let TextCase { book, fugitive, exact_len, shown_len, .. } = self.clone();
-        Case { book, fugitive, sheet, exact_len, shown_len }
+        let TextCase { own, book, fugitive, exact_len, shown_len, .. } = self.clone();
+        Case { own, book, fugitive, sheet, exact_len, shown_len }
     }
 
     /// Reads a folder again; without lengths the results have room.
     pub fn read(folder: &Path) -> io::Result<Self> {
         let book = fs::read(folder.join("book.bin"))?;
         let case = TextCase::with_room(book, fs::read(folder.join("sheet.csv"))?);
-        let case = case.with_fugitive(read_fugitive(folder));
+        let case = case.with_own(read_own(folder)).with_fugitive(read_fugitive(folder));
         match kept_lengths(folder)? {
             Some([exact_len, shown_len]) => Ok(case.with_lengths(exact_len, shown_len)),
             None => Ok(case),
@@ -221,21 +233,21 @@ impl TextCase {
     pub fn run_plain(&self) -> Filled {
         let mut exact: Vec<u64> = earlier_cells(self.exact_len).collect();
         let mut shown: Vec<u64> = earlier_cells(self.shown_len).collect();
-        let TextCase { book, fugitive, text, .. } = self;
-        let answer = plain::account_text(book, fugitive, text, &mut exact, &mut shown);
+        let TextCase { own, book, fugitive, text, .. } = self;
+        let answer = plain::account_text(own, book, fugitive, text, &mut exact, &mut shown);
         Filled { outcome: outcome_of(answer), exact, shown }
     }
 
     /// Runs the proved desk, and checks that nothing around its results and
     /// nothing in or around the files has changed.
     pub fn run_proved(&self) -> Result<Filled, String> {
-        let files = [&self.book, &self.fugitive, &self.text];
+        let files = [&self.own, &self.book, &self.fugitive, &self.text];
         let lent = files.map(|file| Lent::file(file));
-        let [book, fugitive, text] = lent.each_ref().map(Lent::middle);
+        let [own, book, fugitive, text] = lent.each_ref().map(Lent::middle);
         let mut exact = Lent::cells(earlier_cells(self.exact_len));
         let mut shown = Lent::cells(earlier_cells(self.shown_len));
         let (exact_cells, shown_cells) = (exact.middle_mut(), shown.middle_mut());
-        let outcome = checkraven::account_text(book, fugitive, text, exact_cells, shown_cells);
+        let outcome = checkraven::account_text(own, book, fugitive, text, exact_cells, shown_cells);
         check_memory(&lent, &files, &[&exact, &shown])?;
         Ok(Filled { outcome, exact: exact.middle().to_vec(), shown: shown.middle().to_vec() })
     }
@@ -264,6 +276,7 @@ impl AnyCase for TextCase {
 
     fn write(&self, folder: &Path) -> io::Result<()> {
         fs::create_dir_all(folder)?;
+        fs::write(folder.join("own.bin"), &self.own)?;
         fs::write(folder.join("book.bin"), &self.book)?;
         fs::write(folder.join("fugitive.bin"), &self.fugitive)?;
         fs::write(folder.join("sheet.csv"), &self.text)?;
@@ -301,8 +314,8 @@ impl ThereAndBack {
         let filled = run_proved(&case)?;
         let read_again = Case { sheet: again.bytes().to_vec(), ..case.clone() };
         check_alike("the sheet and the one read again", &filled, &run_proved(&read_again)?)?;
-        let Case { book, fugitive, exact_len, shown_len, .. } = case;
-        let as_text = TextCase { book, fugitive, text: text.to_vec(), exact_len, shown_len };
+        let Case { own, book, fugitive, exact_len, shown_len, .. } = case;
+        let as_text = TextCase { own, book, fugitive, text: text.to_vec(), exact_len, shown_len };
         check_alike("the sheet and its text", &filled, &as_text.agreed()?)
     }
 }

@@ -49,8 +49,8 @@ impl Bundle {
 }
 
 impl BundleCase {
-    /// A book and a bundle with a little more room than they need, and a fugitive
-    /// table without entries.
+    /// A book and a bundle with a little more room than they need, an own book without
+    /// rows and a fugitive table without entries.
     pub fn of(book: &[u8], bundle: &Bundle) -> Self {
         BundleCase::with_room(book.to_vec(), bundle.bytes())
     }

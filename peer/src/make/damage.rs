@@ -8,7 +8,7 @@ use crate::compare::Case;
 /// Does one to three damages to a case.
 pub fn damage(random: &mut Random, case: &mut Case) {
     for _ in 0..1 + random.below(3) {
-        match random.below(13) {
+        match random.below(15) {
             0 => change_byte(random, &mut case.book),
             1 => change_byte(random, &mut case.sheet),
             2 => change_header(random, &mut case.book),
@@ -18,6 +18,7 @@ pub fn damage(random: &mut Random, case: &mut Case) {
             6 => case.exact_len = random.index(case.exact_len + 4),
             7 => case.shown_len = random.index(case.shown_len + 4),
             8 | 9 => damage_table(random, &mut case.fugitive),
+            10 | 11 => damage_book(random, &mut case.own),
             _ => change_line_field(random, &mut case.sheet),
         }
     }
@@ -29,6 +30,16 @@ pub fn damage_sheet(random: &mut Random, sheet: &mut [u8]) {
         0 => change_byte(random, sheet),
         1 => change_header(random, sheet),
         _ => change_line_field(random, sheet),
+    }
+}
+
+/// Does one damage to a book, most often to a field of one of its rows.
+pub fn damage_book(random: &mut Random, book: &mut Vec<u8>) {
+    match random.below(6) {
+        0 => change_byte(random, book),
+        1 => change_length_of(random, book),
+        2 => change_header(random, book),
+        _ => change_book_field(random, book),
     }
 }
 
@@ -58,6 +69,9 @@ fn lose_entry(random: &mut Random, table: &mut Vec<u8>) {
 /// than the length is looked at.
 pub fn formless_case(random: &mut Random) -> Case {
     let mut case = Case::with_room(formless_file(random), formless_file(random));
+    if random.chance(30) {
+        case.own = formless_file(random);
+    }
     if random.chance(50) {
         case.fugitive = formless_file(random);
     }

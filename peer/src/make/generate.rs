@@ -1,8 +1,9 @@
 //! Seeded generators of well-formed books and of sheets that are accepted, with and
-//! without fugitive dust.
+//! without factors of the works' own and fugitive dust.
 
 use super::dust::{GAS, PARTICULATES};
 use super::fugitive::{self, Fugitive};
+use super::own::{own_book, Books};
 use super::parts::{Book, Line, Row, Sheet, Technique};
 use super::random::Random;
 use crate::compare::Case;
@@ -26,17 +27,23 @@ pub fn case_up_to(random: &mut Random, most: Size) -> Case {
     case(random, size)
 }
 
-/// A case that is accepted. A book without rows has a sheet without lines.
+/// A case that is accepted. Where no book has rows, the sheet has no lines.
 pub fn case(random: &mut Random, size: Size) -> Case {
     let book = book(random, size.rows, size.techniques);
+    let own = own_book(random, &book);
     let table = fugitive::table(random, &book);
-    let sheet = graded_sheet(random, &book, &table, size.lines);
-    Case::of(&book, &sheet).with_fugitive(table.bytes())
+    let books = Books { own: &own, published: &book };
+    let sheet = graded_sheet(random, books, &table, size.lines);
+    Case::of(&book, &sheet).with_own(own.bytes()).with_fugitive(table.bytes())
 }
 
 pub fn book(random: &mut Random, rows: usize, techniques: usize) -> Book {
-    let (techniques, runs) = technique_runs(random, techniques);
     let keys = row_keys(random, rows);
+    book_of(random, keys, techniques)
+}
+
+pub fn book_of(random: &mut Random, keys: BTreeSet<Key>, techniques: usize) -> Book {
+    let (techniques, runs) = technique_runs(random, techniques);
     let rows = keys.into_iter().map(|key| row(random, key, &runs)).collect();
     let gaps = if random.chance(50) { [0; 3] } else { [0; 3].map(|_| random.index(20)) };
     Book { rows, techniques, gaps }
@@ -68,7 +75,12 @@ fn technique_runs(random: &mut Random, count: usize) -> (Vec<Technique>, Vec<Ran
     (techniques, runs)
 }
 
-type Key = ([u16; 4], u16, u8, u8);
+/// Place, scale, medium and pollutant, as rows rise by them.
+pub type Key = ([u16; 4], u16, u8, u8);
+
+pub fn key_of(row: &Row) -> Key {
+    (row.place, row.scale, row.medium, row.pollutant)
+}
 
 /// Particulates in gas as often as all others together.
 fn medium_and_pollutant(random: &mut Random) -> (u8, u8) {
@@ -85,8 +97,12 @@ fn row_keys(random: &mut Random, count: usize) -> BTreeSet<Key> {
     let scales = [0, values[0], values[1], values[2]];
     let (medium, pollutant) = medium_and_pollutant(random);
     let mut keys = BTreeSet::new();
+    let mut places = Vec::new();
     while keys.len() < count {
-        let place = [0; 4].map(|_| random.pick(&values));
+        if places.is_empty() || random.chance(60) {
+            places.push([0; 4].map(|_| random.pick(&values)));
+        }
+        let place = random.pick(&places);
         let scale = random.pick(&scales);
         let key = if random.chance(85) {
             (place, scale, medium, pollutant)
@@ -131,28 +147,28 @@ fn row(random: &mut Random, key: Key, runs: &[Range<usize>]) -> Row {
     row.with_techniques(1 + random.below(2) as u8, first as u16, number as u16)
 }
 
-/// A sheet without grades.
+/// A sheet without grades, for the published book alone.
 pub fn sheet(random: &mut Random, book: &Book, lines: usize) -> Sheet {
-    graded_sheet(random, book, &Fugitive::default(), lines)
+    graded_sheet(random, Books::published_alone(book), &Fugitive::default(), lines)
 }
 
 /// A sheet whose lines have grades where they may.
-pub fn graded_sheet(random: &mut Random, book: &Book, table: &Fugitive, lines: usize) -> Sheet {
+pub fn graded_sheet(random: &mut Random, books: Books, table: &Fugitive, lines: usize) -> Sheet {
     let unit = 1 + random.below(3) as u32;
     let gaps = if random.chance(50) { [0; 2] } else { [0; 2].map(|_| random.index(70)) };
-    let (medium, pollutant, lines) = match book.rows.len() {
+    let (medium, pollutant, lines) = match books.rows().count() {
         0 => {
             let (medium, pollutant) = medium_and_pollutant(random);
             (medium, pollutant, 0)
         }
         rows => {
-            let row = &book.rows[random.index(rows)];
+            let row = books.rows().nth(random.index(rows)).expect("there are so many");
             (row.medium, row.pollutant, lines)
         }
     };
-    let rows: Vec<&Row> =
-        book.rows.iter().filter(|row| (row.medium, row.pollutant) == (medium, pollutant)).collect();
-    let mut lines: Vec<Line> = (0..lines).map(|_| line(random, book, &rows)).collect();
+    let of_the_sheet = |row: &&Row| (row.medium, row.pollutant) == (medium, pollutant);
+    let rows: Vec<&Row> = books.rows().filter(of_the_sheet).collect();
+    let mut lines: Vec<Line> = (0..lines).map(|_| line(random, books, &rows)).collect();
     if (medium, pollutant) == (GAS, PARTICULATES) {
         lines.iter_mut().for_each(|line| grade(random, table, line));
     }
@@ -167,12 +183,11 @@ fn grade(random: &mut Random, table: &Fugitive, line: &mut Line) {
 }
 
 /// A line whose row is among the sheet's.
-fn line(random: &mut Random, book: &Book, rows: &[&Row]) -> Line {
+fn line(random: &mut Random, books: Books, rows: &[&Row]) -> Line {
     let near = random.pick(rows);
     let scale = if near.scale == 0 { random.up_to(9) as u16 } else { near.scale };
-    let same_place = |scale| move |row: &&&Row| row.place == near.place && row.scale == scale;
-    let row = rows.iter().find(same_place(scale)).or_else(|| rows.iter().find(same_place(0)));
-    let row = row.expect("the near row itself is of this scale or of all scales");
+    let answer = books.find((near.place, scale, near.medium, near.pollutant));
+    let (row, list) = answer.expect("the near row itself is of this scale or of all scales");
     let line = Line {
         place: near.place,
         scale,
@@ -187,12 +202,12 @@ fn line(random: &mut Random, book: &Book, rows: &[&Row]) -> Line {
         grades: [0; 3],
         last_zeros: [0; 5],
     };
-    if row.number == 0 || random.chance(15) {
+    if list.is_empty() || random.chance(15) {
         return line;
     }
-    let at = row.first as usize + random.index(row.number as usize);
+    let technique = random.pick(list).code;
     let (kind, readings) = reading(random, row.k_rule);
-    Line { technique: book.techniques[at].code, kind, readings, ..line }
+    Line { technique, kind, readings, ..line }
 }
 
 /// A kind and readings that go with the k rule and are taken: an energy within

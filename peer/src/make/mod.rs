@@ -1,5 +1,5 @@
-//! Books, fugitive tables, sheets, bundles and texts made for tests: builders for single cases, seeded
-//! generators for many, and damages.
+//! Books, fugitive tables, sheets, bundles and texts made for tests: builders for
+//! single cases, seeded generators for many, and damages.
 
 mod bundle;
 pub mod damage;
@@ -7,6 +7,9 @@ pub mod dust;
 pub mod edges;
 pub mod fugitive;
 pub mod generate;
+pub mod inspect;
+pub mod kiln;
+pub mod own;
 mod parts;
 mod random;
 pub mod text;
@@ -18,7 +21,7 @@ pub use fugitive::{Entry, Fugitive};
 pub use parts::{Book, Line, Row, Sheet, Technique};
 pub use random::Random;
 
-use crate::compare::{BundleCase, Case, Conversion, TextCase, ThereAndBack};
+use crate::compare::{BundleCase, Case, Conversion, RowCase, TextCase, ThereAndBack};
 
 /// Each of the first with each of the second.
 pub fn every_two<A: Clone, B: Clone>(first: &[A], second: &[B]) -> Vec<(A, B)> {
@@ -51,15 +54,18 @@ pub fn any_bundle(random: &mut Random) -> BundleCase {
 }
 
 /// A case whose sheet is typed as text, some of the texts damaged, and now and then
-/// the fugitive table.
+/// the own book or the fugitive table.
 pub fn any_text_case(random: &mut Random) -> TextCase {
     let size = any_size(random);
     let mut case = generate::case_up_to(random, size);
     if random.chance(20) {
         damage::damage_table(random, &mut case.fugitive);
     }
-    let Case { book, fugitive, sheet, exact_len, shown_len } = case;
-    TextCase { book, fugitive, text: any_text(random, &sheet), exact_len, shown_len }
+    if random.chance(20) {
+        damage::damage_book(random, &mut case.own);
+    }
+    let Case { own, book, fugitive, sheet, exact_len, shown_len } = case;
+    TextCase { own, book, fugitive, text: any_text(random, &sheet), exact_len, shown_len }
 }
 
 fn any_text(random: &mut Random, sheet: &[u8]) -> Vec<u8> {
@@ -93,6 +99,12 @@ pub fn any_conversion(random: &mut Random) -> Conversion {
 /// A case to be written as text and read again, some of the sheets damaged.
 pub fn any_there_and_back(random: &mut Random) -> ThereAndBack {
     ThereAndBack(any_case(random))
+}
+
+/// A row that is asked for, of any two books.
+pub fn any_row_case(random: &mut Random) -> RowCase {
+    let size = any_size(random);
+    inspect::row_case(random, size)
 }
 
 fn any_size(random: &mut Random) -> generate::Size {

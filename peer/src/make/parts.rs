@@ -184,8 +184,8 @@ impl Sheet {
 }
 
 impl Case {
-    /// A book and a sheet with a little more room than they need, and a fugitive
-    /// table without entries.
+    /// A book and a sheet with a little more room than they need, an own book without
+    /// rows and a fugitive table without entries.
     pub fn of(book: &Book, sheet: &Sheet) -> Self {
         Case::with_room(book.bytes(), sheet.bytes())
     }

@@ -1,11 +1,12 @@
-//! Seeded generators of whole works, a book, a fugitive table and a bundle of
+//! Seeded generators of whole works, two books, a fugitive table and a bundle of
 //! sheets, and damages to them.
 
 use super::bundle::Bundle;
-use super::damage::damage_table;
 use super::damage::{change_byte, change_field, change_length_of, damage_sheet};
+use super::damage::{damage_book, damage_table};
 use super::fugitive::{self, Fugitive};
 use super::generate::{self, Size};
+use super::own::{own_book, Books};
 use super::parts::Book;
 use super::random::Random;
 use crate::compare::BundleCase;
@@ -14,29 +15,36 @@ use checkraven::cells_for;
 /// A works whose bundle is taken, with so many sheets that are all accepted.
 pub fn sound_works(random: &mut Random, sheets: usize, most: Size) -> BundleCase {
     let book = book_up_to(random, most);
+    let own = own_book(random, &book);
     let table = fugitive::table(random, &book);
-    let mut sheet = |_| sheet_up_to(random, &book, &table, most);
+    let books = Books { own: &own, published: &book };
+    let mut sheet = |_| sheet_up_to(random, books, &table, most);
     let sheets: Vec<Vec<u8>> = (0..sheets).map(&mut sheet).collect();
     let more = random.index(5);
-    bundled(random, &book, &sheets, cells_for_all(&sheets) + more).with_fugitive(table.bytes())
+    bundled(random, books, &sheets, cells_for_all(&sheets) + more).with_fugitive(table.bytes())
 }
 
 /// A works whose bundle is taken. Any of its sheets may be damaged or empty,
-/// its runs may be too short for some of them, and now and then the book or the
+/// its runs may be too short for some of them, and now and then a book or the
 /// fugitive table is bad.
 pub fn mixed_works(random: &mut Random, most: Size) -> BundleCase {
     let book = book_up_to(random, most);
+    let own = own_book(random, &book);
     let table = fugitive::table(random, &book);
+    let books = Books { own: &own, published: &book };
     let count = random.up_to(16) as usize;
-    let mut sheet = |_| any_sheet(random, &book, &table, most);
+    let mut sheet = |_| any_sheet(random, books, &table, most);
     let sheets: Vec<Vec<u8>> = (0..count).map(&mut sheet).collect();
     let cells = match random.below(4) {
         0 => random.index(cells_for_all(&sheets) + 9),
         _ => cells_for_all(&sheets),
     };
-    let mut case = bundled(random, &book, &sheets, cells).with_fugitive(table.bytes());
+    let mut case = bundled(random, books, &sheets, cells).with_fugitive(table.bytes());
     if random.chance(5) {
         change_byte(random, &mut case.book);
+    }
+    if random.chance(5) {
+        damage_book(random, &mut case.own);
     }
     if random.chance(5) {
         damage_table(random, &mut case.fugitive);
@@ -44,7 +52,7 @@ pub fn mixed_works(random: &mut Random, most: Size) -> BundleCase {
     case
 }
 
-fn book_up_to(random: &mut Random, most: Size) -> Book {
+pub fn book_up_to(random: &mut Random, most: Size) -> Book {
     let (rows, techniques) = (random.index(most.rows + 1), random.index(most.techniques + 1));
     generate::book(random, rows, techniques)
 }
@@ -52,16 +60,16 @@ fn book_up_to(random: &mut Random, most: Size) -> Book {
 /// As many lines as may stand in each of 16 sheets within 65,536 bytes.
 const MOST_LINES: usize = 60;
 
-fn sheet_up_to(random: &mut Random, book: &Book, table: &Fugitive, most: Size) -> Vec<u8> {
+fn sheet_up_to(random: &mut Random, books: Books, table: &Fugitive, most: Size) -> Vec<u8> {
     let lines = random.index(most.lines.min(MOST_LINES) + 1);
-    generate::graded_sheet(random, book, table, lines).bytes()
+    generate::graded_sheet(random, books, table, lines).bytes()
 }
 
-fn any_sheet(random: &mut Random, book: &Book, table: &Fugitive, most: Size) -> Vec<u8> {
+fn any_sheet(random: &mut Random, books: Books, table: &Fugitive, most: Size) -> Vec<u8> {
     if random.chance(5) {
         return vec![];
     }
-    let mut sheet = sheet_up_to(random, book, table, most);
+    let mut sheet = sheet_up_to(random, books, table, most);
     if random.chance(30) {
         damage_sheet(random, &mut sheet);
     }
@@ -74,12 +82,12 @@ fn cells_for_all(sheets: &[Vec<u8>]) -> usize {
     cells_for(most_bytes / 64)
 }
 
-fn bundled(random: &mut Random, book: &Book, sheets: &[Vec<u8>], cells: usize) -> BundleCase {
+fn bundled(random: &mut Random, books: Books, sheets: &[Vec<u8>], cells: usize) -> BundleCase {
     let with_gaps = random.chance(50);
     let gaps: Vec<usize> =
         (0..=sheets.len()).map(|_| if with_gaps { random.index(9) } else { 0 }).collect();
     let bundle = Bundle::with_gaps(cells as u32, sheets, &gaps);
-    BundleCase::of(&book.bytes(), &bundle)
+    BundleCase::of(&books.published.bytes(), &bundle).with_own(books.own.bytes())
 }
 
 /// Does one to three damages to a bundle or to what is lent for it.

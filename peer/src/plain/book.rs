@@ -4,9 +4,9 @@ use super::bytes::{u16_at, u32_at};
 use super::MOST_BYTES;
 
 const HEADER: usize = 16;
-const ROW: usize = 24;
+pub const ROW: usize = 24;
 const TECHNIQUE: usize = 4;
-const MOST_ROWS: usize = 1024;
+pub const MOST_ROWS: usize = 1024;
 const MOST_TECHNIQUES: usize = 4096;
 const MOST_COEFFICIENT: u64 = 100_000_000;
 const MOST_EFFICIENCY: u16 = 1000;
@@ -24,6 +24,16 @@ const POWERS: [[u64; 6]; 4] = [
 pub struct Book<'a> {
     rows: &'a [[u8; ROW]],
     techniques: &'a [[u8; TECHNIQUE]],
+}
+
+/// Where a row stands: industry, product, material and process as one number, the
+/// scale, the medium, the pollutant.
+#[derive(Clone, Copy)]
+pub struct Wanted {
+    pub place: u64,
+    pub scale: u16,
+    pub medium: u8,
+    pub pollutant: u8,
 }
 
 /// What a line needs of its row.
@@ -75,23 +85,24 @@ impl<'a> Book<'a> {
         })
     }
 
-    /// The row of the exact scale, else the one for all scales. A place is
-    /// industry, product, material and process.
-    pub fn find(&self, place: u64, scale: u16, medium: u8, pollutant: u8) -> Option<Row<'a>> {
-        let row = self
-            .row_with(key(place, scale, medium, pollutant))
-            .or_else(|| self.row_with(key(place, 0, medium, pollutant)))?;
+    /// Which row is wanted, counted from 0.
+    pub fn index_of(&self, wanted: Wanted) -> Option<usize> {
+        self.rows.binary_search_by_key(&wanted.key(), row_key).ok()
+    }
+
+    pub fn row_bytes(&self, index: usize) -> &'a [u8; ROW] {
+        &self.rows[index]
+    }
+
+    /// The row with its techniques, which are this book's own.
+    pub fn row(&self, index: usize) -> Option<Row<'a>> {
+        let row = &self.rows[index];
         Some(Row {
             by_product: row[12] == 1,
             coefficient: coefficient(row)?,
             k_rule: row[15],
             techniques: self.techniques_of(row)?,
         })
-    }
-
-    fn row_with(&self, wanted: Key) -> Option<&'a [u8; ROW]> {
-        let found = self.rows.binary_search_by_key(&wanted, row_key);
-        found.ok().map(|index| &self.rows[index])
     }
 
     fn techniques_of(&self, row: &[u8; ROW]) -> Option<&'a [[u8; TECHNIQUE]]> {
@@ -101,6 +112,17 @@ impl<'a> Book<'a> {
             0 => Some(&[]),
             _ => self.techniques.get(first..first + number),
         }
+    }
+}
+
+impl Wanted {
+    /// The same for all scales.
+    pub fn of_all_scales(self) -> Self {
+        Wanted { scale: 0, ..self }
+    }
+
+    fn key(self) -> Key {
+        key(self.place, self.scale, self.medium, self.pollutant)
     }
 }
 

@@ -1,7 +1,7 @@
-//! The bundle: several sheets with one book and one fugitive table in one call.
+//! The bundle: several sheets with the same two books and fugitive table in one call.
 
 use super::bytes::{u16_at, u32_at};
-use super::{account_with, Published, Refusal, BUNDLE_MALFORMED, MOST_BYTES, RESULT_TOO_SHORT};
+use super::{account_with, Factors, Refusal, BUNDLE_MALFORMED, MOST_BYTES, RESULT_TOO_SHORT};
 
 const HEADER: usize = 12;
 const ENTRY: usize = 8;
@@ -66,6 +66,7 @@ fn sheets_lie_apart(entries: &[u8], entries_end: u64, length: u64) -> bool {
 /// Accounts for every sheet of a bundle, each in its own runs of the results.
 /// Where the whole bundle is refused, all cells and outcomes are zero.
 pub fn account_bundle(
+    own: &[u8],
     book: &[u8],
     fugitive: &[u8],
     bundle: &[u8],
@@ -73,7 +74,7 @@ pub fn account_bundle(
     shown: &mut [u64],
     outcomes: &mut [u64],
 ) -> Result<(), Refusal> {
-    let answer = fill_runs(book, fugitive, bundle, exact, shown, outcomes);
+    let answer = fill_runs(own, book, fugitive, bundle, exact, shown, outcomes);
     if answer.is_err() {
         exact.fill(0);
         shown.fill(0);
@@ -83,6 +84,7 @@ pub fn account_bundle(
 }
 
 fn fill_runs(
+    own: &[u8],
     book: &[u8],
     fugitive: &[u8],
     bundle: &[u8],
@@ -95,12 +97,12 @@ fn fill_runs(
     if !has_room(exact) || !has_room(shown) || outcomes.len() < bundle.sheet_count {
         return Err(Refusal::whole_file(RESULT_TOO_SHORT));
     }
-    let published = Published::read(book, fugitive);
+    let factors = Factors::read(own, book, fugitive);
     for (index, sheet) in bundle.sheets().enumerate() {
         let cells = bundle.cells_per_sheet as usize;
         let run = index * cells..(index + 1) * cells;
         let (exact, shown) = (&mut exact[run.clone()], &mut shown[run]);
-        let answer = account_with(&published, sheet, exact, shown);
+        let answer = account_with(&factors, sheet, exact, shown);
         outcomes[index] = answer.err().map_or(0, Refusal::code);
     }
     Ok(())

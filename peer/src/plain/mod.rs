@@ -3,6 +3,7 @@
 
 mod amounts;
 mod book;
+mod books;
 mod bundle;
 mod bytes;
 mod fugitive;
@@ -11,11 +12,13 @@ mod sheet;
 mod shown;
 mod text;
 
-use book::Book;
+use book::Wanted;
+use books::Books;
 use fugitive::{Grades, Table};
 use sheet::{Line, Sheet};
 
 pub use amounts::Amounts;
+pub use books::{row, row_into, row_number, Asked};
 pub use bundle::account_bundle;
 pub use text::{account_text, sheet_from_text, text_from_sheet};
 
@@ -70,41 +73,55 @@ const TONNE: u64 = 100_000_000_000;
 /// Accounts for one sheet. On refusal all cells of both results are zero; on
 /// acceptance cells past the tables keep their values.
 pub fn account(
+    own: &[u8],
     book: &[u8],
     fugitive: &[u8],
     sheet: &[u8],
     exact: &mut [u64],
     shown: &mut [u64],
 ) -> Result<(), Refusal> {
-    account_with(&Published::read(book, fugitive), sheet, exact, shown)
+    account_with(&Factors::read(own, book, fugitive), sheet, exact, shown)
 }
 
-/// What is read once for all sheets, `None` where it is malformed.
-struct Published<'a> {
-    book: Option<Book<'a>>,
-    fugitive: Option<Table<'a>>,
-}
-
-impl<'a> Published<'a> {
-    fn read(book: &'a [u8], fugitive: &'a [u8]) -> Self {
-        Published { book: Book::read(book), fugitive: Table::read(fugitive) }
-    }
-
-    /// Both, or the refusal of the first that is malformed.
-    fn both(&self) -> Result<(&Book<'a>, &Table<'a>), Refusal> {
-        let book = self.book.as_ref().ok_or(Refusal::whole_file(BOOK_MALFORMED))?;
-        let fugitive = self.fugitive.as_ref().ok_or(Refusal::whole_file(FUGITIVE_MALFORMED))?;
-        Ok((book, fugitive))
-    }
-}
-
-fn account_with(
-    published: &Published,
+/// The same for a desk that knows of no book but the published one.
+pub fn account_by_one_book(
+    book: &[u8],
+    fugitive: &[u8],
     sheet: &[u8],
     exact: &mut [u64],
     shown: &mut [u64],
 ) -> Result<(), Refusal> {
-    let answer = fill_tables(published, sheet, exact, shown);
+    let books = Books::published_alone(book);
+    let factors = Factors { books, fugitive: Table::read(fugitive) };
+    account_with(&factors, sheet, exact, shown)
+}
+
+/// What is read once for all sheets, `None` where it is malformed.
+struct Factors<'a> {
+    books: Option<Books<'a>>,
+    fugitive: Option<Table<'a>>,
+}
+
+impl<'a> Factors<'a> {
+    fn read(own: &'a [u8], book: &'a [u8], fugitive: &'a [u8]) -> Self {
+        Factors { books: Books::read(own, book), fugitive: Table::read(fugitive) }
+    }
+
+    /// All, or the refusal of the first that is malformed.
+    fn all(&self) -> Result<(&Books<'a>, &Table<'a>), Refusal> {
+        let books = self.books.as_ref().ok_or(Refusal::whole_file(BOOK_MALFORMED))?;
+        let fugitive = self.fugitive.as_ref().ok_or(Refusal::whole_file(FUGITIVE_MALFORMED))?;
+        Ok((books, fugitive))
+    }
+}
+
+fn account_with(
+    factors: &Factors,
+    sheet: &[u8],
+    exact: &mut [u64],
+    shown: &mut [u64],
+) -> Result<(), Refusal> {
+    let answer = fill_tables(factors, sheet, exact, shown);
     if answer.is_err() {
         exact.fill(0);
         shown.fill(0);
@@ -113,24 +130,24 @@ fn account_with(
 }
 
 fn fill_tables(
-    published: &Published,
+    factors: &Factors,
     sheet: &[u8],
     exact: &mut [u64],
     shown: &mut [u64],
 ) -> Result<(), Refusal> {
-    let (book, fugitive) = published.both()?;
+    let (books, fugitive) = factors.all()?;
     let sheet = Sheet::read(sheet).ok_or(Refusal::whole_file(SHEET_MALFORMED))?;
     let cells = COLUMNS * (sheet.line_count() + 1);
     if exact.len() < cells || shown.len() < cells {
         return Err(Refusal::whole_file(RESULT_TOO_SHORT));
     }
-    fill_exact(book, fugitive, &sheet, &mut exact[..cells])?;
+    fill_exact(books, fugitive, &sheet, &mut exact[..cells])?;
     shown::fill(&exact[..cells], sheet.shown_unit, &mut shown[..cells]);
     Ok(())
 }
 
 fn fill_exact(
-    book: &Book,
+    books: &Books,
     fugitive: &Table,
     sheet: &Sheet,
     exact: &mut [u64],
@@ -138,7 +155,7 @@ fn fill_exact(
     let (rows, sums) = exact.split_at_mut(COLUMNS * sheet.line_count());
     let mut total = Amounts::default();
     for (index, (line, cells)) in sheet.lines().zip(rows.chunks_exact_mut(COLUMNS)).enumerate() {
-        let amounts = line_amounts(book, fugitive, sheet, &line)
+        let amounts = line_amounts(books, fugitive, sheet, &line)
             .map_err(|number| Refusal { number, line: index as u32 + 1 })?;
         cells.copy_from_slice(&amounts.cells());
         total.add(&amounts);
@@ -148,7 +165,12 @@ fn fill_exact(
 }
 
 /// One line's amounts, or the number of its first refusal.
-fn line_amounts(book: &Book, fugitive: &Table, sheet: &Sheet, line: &Line) -> Result<Amounts, u32> {
+fn line_amounts(
+    books: &Books,
+    fugitive: &Table,
+    sheet: &Sheet,
+    line: &Line,
+) -> Result<Amounts, u32> {
     if line.product > MOST_KILOGRAMS || line.material > MOST_KILOGRAMS {
         return Err(ACTIVITY_TOO_LARGE);
     }
@@ -158,7 +180,9 @@ fn line_amounts(book: &Book, fugitive: &Table, sheet: &Sheet, line: &Line) -> Re
     if !grades_are_taken(sheet, line.grades) {
         return Err(BAD_GRADE);
     }
-    let row = book.find(line.place, line.scale, sheet.medium, sheet.pollutant).ok_or(NO_ROW)?;
+    let Sheet { medium, pollutant, .. } = *sheet;
+    let wanted = Wanted { place: line.place, scale: line.scale, medium, pollutant };
+    let row = books.find(wanted).ok_or(NO_ROW)?;
     let dust = fugitive.coefficient(line.place, line.scale, line.grades);
     let dust = dust.ok_or(NO_FUGITIVE_ENTRY)? * line.product;
     let activity = if row.by_product { line.product } else { line.material };
@@ -178,4 +202,19 @@ fn line_amounts(book: &Book, fugitive: &Table, sheet: &Sheet, line: &Line) -> Re
 fn grades_are_taken(sheet: &Sheet, grades: Grades) -> bool {
     let most = if sheet.has_fugitive_dust() { fugitive::POOR } else { 0 };
     grades.iter().all(|&grade| grade <= most)
+}
+
+/// Puts what was made at the front of the lent bytes, and says how many bytes it
+/// has. Room is looked at last; on refusal all lent bytes are zero.
+fn lay(made: Result<impl AsRef<[u8]>, Refusal>, lent: &mut [u8]) -> Result<usize, Refusal> {
+    let answer = made.and_then(|made| {
+        let bytes = made.as_ref();
+        let place = lent.get_mut(..bytes.len()).ok_or(Refusal::whole_file(RESULT_TOO_SHORT))?;
+        place.copy_from_slice(bytes);
+        Ok(bytes.len())
+    });
+    if answer.is_err() {
+        lent.fill(0);
+    }
+    answer
 }

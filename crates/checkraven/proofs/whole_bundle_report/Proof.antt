@@ -11,7 +11,7 @@ returns c = bytes-are _ _ _ _ _ (rw (c .before .bytes .given .1) at (c .before .
 returns-2 : tie.Need-returns-2
 returns-2 c =
     let report = c .before .before .before .before .report-bundle in
-    let asked = c .before .before .before .before .before .before .before .before .before .before .pre in
+    let asked = c .before .before .before .before .before .before .before .before .before .before .before .pre in
     clash (cc (always-room _ _ _ _ _ (report .ensures) (asked)))
 
 pub whole-bundle-report-spec : {M : Type 1} → statement M

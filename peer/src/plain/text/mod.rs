@@ -4,7 +4,7 @@
 mod read;
 mod write;
 
-use super::{account, Refusal, RESULT_TOO_SHORT, SHEET_MALFORMED, TEXT_MALFORMED};
+use super::{account, lay, Refusal, SHEET_MALFORMED, TEXT_MALFORMED};
 
 /// Writes the binary sheet that a text stands for, and says how many bytes it
 /// has. On refusal all lent bytes are zero.
@@ -18,23 +18,10 @@ pub fn text_from_sheet(sheet: &[u8], text: &mut [u8]) -> Result<usize, Refusal> 
     lay(write::text(sheet), text)
 }
 
-/// Room is looked at last.
-fn lay(made: Result<impl AsRef<[u8]>, Refusal>, lent: &mut [u8]) -> Result<usize, Refusal> {
-    let answer = made.and_then(|made| {
-        let bytes = made.as_ref();
-        let place = lent.get_mut(..bytes.len()).ok_or(Refusal::whole_file(RESULT_TOO_SHORT))?;
-        place.copy_from_slice(bytes);
-        Ok(bytes.len())
-    });
-    if answer.is_err() {
-        lent.fill(0);
-    }
-    answer
-}
-
 /// Accounts for one text sheet, with 12 in the place of 2. A text that is
 /// malformed is as an empty file, which no binary sheet is.
 pub fn account_text(
+    own: &[u8],
     book: &[u8],
     fugitive: &[u8],
     text: &[u8],
@@ -43,7 +30,7 @@ pub fn account_text(
 ) -> Result<(), Refusal> {
     let read = read::sheet(text);
     let sheet = read.as_ref().map_or(&[][..], AsRef::as_ref);
-    account(book, fugitive, sheet, exact, shown).map_err(|refusal| match refusal.number {
+    account(own, book, fugitive, sheet, exact, shown).map_err(|refusal| match refusal.number {
         SHEET_MALFORMED => Refusal::whole_file(TEXT_MALFORMED),
         _ => refusal,
     })

@@ -5,12 +5,10 @@ use Rattle.desk.proofs.book.key_at.Statement.{statement}
 use Rattle.desk.proofs.book.key_at.Tie as tie
 
 key-from-requires : tie.Need-key-from-requires
-key-from-requires c κs = (omega (arith, c .before .before .before .pre), omega (arith, c .before .byte-in .ensures .small), omega (arith, c .byte-in2 .ensures .small))
+key-from-requires c κs = omega (arith, c .before .before .before .pre)
 
 returns : tie.Need-returns
-returns c =
-    let key = c .key-from .ensures in
-    record { eq = rw (← c .before .before .byte-in .ensures .eq, ← c .before .byte-in2 .ensures .eq) (key .eq); small = key .small }
+returns c = rw (← c .before .before .byte-in .ensures .eq, ← c .before .byte-in2 .ensures .eq) (c .key-from .ensures)
 
 pub key-at-spec : {M : Type 1} → statement M
 key-at-spec = tie.close (tie.spec (λ c κs. search needs) (λ c κs. search needs) key-from-requires returns)

@@ -22,19 +22,19 @@ returns-2 : tie.Need-returns-2
 returns-2 c =
     let key = c .before .before .before in
     let stands = sym (c .before .before .row-order .ensures) ∙ c .enum-told .given .1 in
-    rises-by _ _ _ _ (key .before .if1 .left) (key .before .before .before .pre .1) (key .key-at .ensures .eq) stands
+    rises-by _ _ _ _ (key .before .if1 .left) (key .before .before .before .pre .1) (key .key-at .ensures) stands
 
 returns-3 : tie.Need-returns-3
 returns-3 c =
     let key = c .before .before .before in
     let stands = sym (c .before .before .row-order .ensures) ∙ c .enum-told2 .given .1 in
-    rises-by _ _ _ _ (key .before .if1 .left) (key .before .before .before .pre .1) (key .key-at .ensures .eq) stands
+    rises-by _ _ _ _ (key .before .if1 .left) (key .before .before .before .pre .1) (key .key-at .ensures) stands
 
 returns-4 : tie.Need-returns-4
 returns-4 c =
     let key = c .before .before .before in
     let stands = sym (c .before .before .row-order .ensures) ∙ c .enum-told3 .given .1 in
-    rises-by _ _ _ _ (key .before .if1 .left) (key .before .before .before .pre .1) (key .key-at .ensures .eq) stands
+    rises-by _ _ _ _ (key .before .if1 .left) (key .before .before .before .pre .1) (key .key-at .ensures) stands
 
 pub row-rises-spec : {M : Type 1} → statement M
 row-rises-spec =

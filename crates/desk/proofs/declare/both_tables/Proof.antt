@@ -9,23 +9,23 @@ use Rattle.desk.proofs.declare.both_tables.Tie as tie
 
 fill-requires : tie.Need-fill-requires
 fill-requires c κs =
-    let ready = c .before .before .before .before .before .before .before .pre in
+    let ready = c .before .before .before .before .before .before .before .before .pre in
     let lines = c .before .line-count .ensures .eq in
     fillable _ _ _ (ready .sources) (ready .sheet) lines (omega (arith, ready .fits))
 
 show-requires : tie.Need-show-requires
 show-requires c κs =
-    let table = c .before .before .before .before .before .before .before .before .before .before .before .before .before .shared-slice-known2 in
-    let ready = c .before .before .before .before .before .before .before .before .before .before .before .before .before .before .before .pre in
+    let table = c .before .before .before .before .before .before .before .before .before .before .before .before .before .shared-slice-known3 in
+    let ready = c .before .before .before .before .before .before .before .before .before .before .before .before .before .before .before .before .pre in
     let lines = c .before .before .before .before .before .before .before .before .before .line-count .ensures .eq in
     let filled = rw lines at (c .before .before .before .before .before .before .before .fill .ensures) in
     let accepted = rw (c .before .before .before .enum-told .given .1) at (filled .table) in
-    showable _ (ready .sources .book) (λ i. table .given i .fits) (ready .sheet) _ _ _ _ lines (c .before .before .unit-of .ensures) accepted _ (omega (arith, ready .fits))
+    showable _ (ready .sources) (λ i. table .given i .fits) (ready .sheet) _ _ _ _ lines (c .before .before .unit-of .ensures) accepted _ (omega (arith, ready .fits))
 
 returns : tie.Need-returns
 returns c =
-    let table = c .before .before .before .before .before .before .before .before .before .before .before .before .before .before .before .before .shared-slice-known2 in
-    let ready = c .before .before .before .before .before .before .before .before .before .before .before .before .before .before .before .before .before .before .pre in
+    let table = c .before .before .before .before .before .before .before .before .before .before .before .before .before .before .before .before .shared-slice-known3 in
+    let ready = c .before .before .before .before .before .before .before .before .before .before .before .before .before .before .before .before .before .before .before .pre in
     let lines = c .before .before .before .before .before .before .before .before .before .before .before .before .line-count .ensures .eq in
     let filled = rw lines at (c .before .before .before .before .before .before .before .before .before .before .fill .ensures) in
     let told = c .before .before .before .before .before .before .enum-told .given .1 in
@@ -35,9 +35,9 @@ returns c =
     rw told
     (record {
       answer = sym told ∙ filled .answer;
-      tables = tables-shown _ (ready .sources .book) (λ i. table .given i .fits) (ready .sheet) _ _ _ _ lines unit accepted _ _ shown;
-      past = λ _. past-kept _ (ready .sources .book) (λ i. table .given i .fits) (ready .sheet) _ _ _ _ lines unit accepted _ _ shown;
-      allowed = λ _. allows _ (ready .sources .book) (λ i. table .given i .fits) (ready .sheet) _ _ _ _ lines unit accepted _ _ shown;
+      tables = tables-shown _ (ready .sources) (λ i. table .given i .fits) (ready .sheet) _ _ _ _ lines unit accepted _ _ shown;
+      past = λ _. past-kept _ (ready .sources) (λ i. table .given i .fits) (ready .sheet) _ _ _ _ lines unit accepted _ _ shown;
+      allowed = λ _. allows _ (ready .sources) (λ i. table .given i .fits) (ready .sheet) _ _ _ _ lines unit accepted _ _ shown;
     })
 
 returns-2 : tie.Need-returns-2

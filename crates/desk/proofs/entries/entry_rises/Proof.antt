@@ -21,17 +21,17 @@ returns c = rw (eq-eqb _ _ (c .if1 .taken))
 returns-2 : tie.Need-returns-2
 returns-2 c =
     let stands = sym (c .before .before .codes-order .ensures) ∙ c .enum-told .given .1 in
-    entry-rises-by _ _ _ _ (c .before .before .before .before .if1 .left) (c .before .before .before .before .before .before .pre .1) (c .before .before .before .key-from .ensures .eq) stands
+    entry-rises-by _ _ _ _ (c .before .before .before .before .if1 .left) (c .before .before .before .before .before .before .pre .1) (c .before .before .before .key-from .ensures) stands
 
 returns-3 : tie.Need-returns-3
 returns-3 c =
     let stands = sym (c .before .before .codes-order .ensures) ∙ c .enum-told2 .given .1 in
-    entry-rises-by _ _ _ _ (c .before .before .before .before .if1 .left) (c .before .before .before .before .before .before .pre .1) (c .before .before .before .key-from .ensures .eq) stands
+    entry-rises-by _ _ _ _ (c .before .before .before .before .if1 .left) (c .before .before .before .before .before .before .pre .1) (c .before .before .before .key-from .ensures) stands
 
 returns-4 : tie.Need-returns-4
 returns-4 c =
     let stands = sym (c .before .before .codes-order .ensures) ∙ c .enum-told3 .given .1 in
-    entry-rises-by _ _ _ _ (c .before .before .before .before .if1 .left) (c .before .before .before .before .before .before .pre .1) (c .before .before .before .key-from .ensures .eq) stands
+    entry-rises-by _ _ _ _ (c .before .before .before .before .if1 .left) (c .before .before .before .before .before .before .pre .1) (c .before .before .before .key-from .ensures) stands
 
 pub entry-rises-spec : {M : Type 1} → statement M
 entry-rises-spec =

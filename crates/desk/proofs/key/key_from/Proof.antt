@@ -1,4 +1,4 @@
--- Field by field, each read where it stands; codes are u16.
+-- Field by field, each read where it stands.
 use Prim.Native.Nat.{_+_}
 use mathlib.Core.Path.{_≡_}
 use native.Mathlib.Omega.{arith}
@@ -13,25 +13,13 @@ returns c =
     let at = c .before .before .before .before .before .before .args .at in
     let start : at + 0 ≡ at = omega arith in
     let industry = rw start at (c .before .before .before .before .u16-in .ensures .eq) in
-    let pre = c .before .before .before .before .before .before .pre in
-    record {
-      eq = rw (
-        ← industry,
-        ← c .before .before .before .u16-in2 .ensures .eq,
-        ← c .before .before .u16-in3 .ensures .eq,
-        ← c .before .u16-in4 .ensures .eq,
-        ← c .u16-in5 .ensures .eq,
-      );
-      small = record {
-        industry = c .before .before .before .before .u16-in .ensures .small;
-        product = c .before .before .before .u16-in2 .ensures .small;
-        material = c .before .before .u16-in3 .ensures .small;
-        process = c .before .u16-in4 .ensures .small;
-        scale = c .u16-in5 .ensures .small;
-        medium = pre .1;
-        pollutant = pre .2;
-      };
-    }
+    rw (
+      ← industry,
+      ← c .before .before .before .u16-in2 .ensures .eq,
+      ← c .before .before .u16-in3 .ensures .eq,
+      ← c .before .u16-in4 .ensures .eq,
+      ← c .u16-in5 .ensures .eq,
+    )
 
 pub key-from-spec : {M : Type 1} → statement M
 key-from-spec =

@@ -11,25 +11,23 @@ line-start-requires c κs = c .before .pre .0 .small
 key-from-requires : tie.Need-key-from-requires
 key-from-requires c κs =
     let there = rw (← c .before .before .line-start .ensures .eq) at (c .before .before .before .before .pre .0 .lies) in
-    (omega (arith, there), omega (arith, c .before .byte-in .ensures .small), omega (arith, c .byte-in2 .ensures .small))
+    omega (arith, there)
 
 returns : tie.Need-returns
 unfolding lineOf
-returns c = record {
-  eq = rw (
-    ← c .before .before .before .before .before .before .before .before .before .before .pre .1,
-    ← c .before .before .before .before .before .before .before .before .line-start .ensures .eq,
-    ← c .before .before .before .before .before .before .before .byte-in .ensures .eq,
-    ← c .before .before .before .before .before .before .byte-in2 .ensures .eq,
-    ← c .before .before .before .before .before .key-from .ensures .eq,
-    ← c .before .before .before .before .u16-in .ensures .eq,
-    ← c .before .before .before .u16-in2 .ensures .eq,
-    ← c .before .before .u64-in .ensures,
-    ← c .before .u64-in2 .ensures,
-    ← c .grades-at .ensures,
-  );
-  small = c .before .before .before .before .before .key-from .ensures .small;
-}
+returns c =
+    rw (
+      ← c .before .before .before .before .before .before .before .before .before .before .pre .1,
+      ← c .before .before .before .before .before .before .before .before .line-start .ensures .eq,
+      ← c .before .before .before .before .before .before .before .byte-in .ensures .eq,
+      ← c .before .before .before .before .before .before .byte-in2 .ensures .eq,
+      ← c .before .before .before .before .before .key-from .ensures,
+      ← c .before .before .before .before .u16-in .ensures .eq,
+      ← c .before .before .before .u16-in2 .ensures .eq,
+      ← c .before .before .u64-in .ensures,
+      ← c .before .u64-in2 .ensures,
+      ← c .grades-at .ensures,
+    )
 
 pub line-of-spec : {M : Type 1} → statement M
 line-of-spec =

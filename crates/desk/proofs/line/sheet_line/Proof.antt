@@ -32,7 +32,7 @@ line-of-requires c κs = (
 
 returns-3 : tie.Need-returns-3
 returns-3 c =
-    ap There (c .line-of .ensures .eq)
+    ap There (c .line-of .ensures)
     ∙ sym (line-there (c .before .before .before .before .before .before .before .args .s .now) (c .before .before .before .before .before .before .before .args .i)
     (omega (arith, c .before .before .before .before .before .line-count .ensures .eq, c .before .before .before .before .if1 .left))
     (omega (arith, c .before .before .before .line-start .ensures .eq, c .before .before .if2 .left)))

@@ -11,17 +11,18 @@ use Rattle.desk.proofs.table.exact_table.Tie as tie
 
 fill-requires : tie.Need-fill-requires
 fill-requires c κs =
-    let args = c .before .before .before .before .before .before .before .before .before .before .args in
-    let told = files-told (lent (sources (now (args .book)) (now (args .fugitive))) (now (args .sheet))) _ (c .before .before .before .before .before .by-sources .ensures) (c .before .before .before .before .by-files .ensures) in
+    let args = c .before .before .before .before .before .before .before .before .before .before .before .args in
+    let known = c .before .before .before .before .before .by-sources .ensures in
+    let told = files-told (lent (sources (now (args .own)) (now (args .book)) (now (args .fugitive))) (now (args .sheet))) _ known (c .before .before .before .before .by-files .ensures) in
     let files = ready _ _ (sym told ∙ c .before .before .enum-told .given .1) in
     fillable _ _ _ (files .sources) (files .sheet) (c .before .line-count .ensures .eq) (omega (arith, files .fits))
 
 returns : tie.Need-returns
 unfolding answerOf
 returns c =
-    let args = c .before .before .before .before .before .before .before .before .before .before .before .before .before .args in
+    let args = c .before .before .before .before .before .before .before .before .before .before .before .before .before .before .args in
     let known = c .before .before .before .before .before .before .before .before .by-sources .ensures in
-    let files = files-told (lent (sources (now (args .book)) (now (args .fugitive))) (now (args .sheet))) _ known (c .before .before .before .before .before .before .before .by-files .ensures) in
+    let files = files-told (lent (sources (now (args .own)) (now (args .book)) (now (args .fugitive))) (now (args .sheet))) _ known (c .before .before .before .before .before .before .before .by-files .ensures) in
     let told = c .before .before .before .before .before .enum-told .given .1 in
     let filled = rw (c .before .before .before .before .line-count .ensures .eq) at (c .before .before .fill .ensures) in
     record { answer = rw (← files, told) (filled .answer); table = filled .table }
@@ -29,9 +30,9 @@ returns c =
 returns-2 : tie.Need-returns-2
 unfolding answerOf
 returns-2 c =
-    let args = c .before .before .before .before .before .before .before .before .before .before .before .args in
+    let args = c .before .before .before .before .before .before .before .before .before .before .before .before .args in
     let known = c .before .before .before .before .before .before .by-sources .ensures in
-    let files = files-told (lent (sources (now (args .book)) (now (args .fugitive))) (now (args .sheet))) _ known (c .before .before .before .before .before .by-files .ensures) in
+    let files = files-told (lent (sources (now (args .own)) (now (args .book)) (now (args .fugitive))) (now (args .sheet))) _ known (c .before .before .before .before .before .by-files .ensures) in
     let no = refusal (c .before .before .before .before .before .by-files .result) (c .before .before .before .before .match .keys2) in
     record { answer = rw (← files) (refused-first _ _ no); table = refused-cells _ _ _ _ _ no (c .before .before .clear .ensures) }
 

@@ -18,15 +18,15 @@ use Rattle.desk.proofs.table.fill.Statement.{statement}
 use Rattle.desk.proofs.table.fill.Tie as tie
 
 abbrev Inv-loop : tie.InvT-loop
-Inv-loop b f s lines exact₀ tally₀ i₀ exact tally i =
+Inv-loop own b f s lines exact₀ tally₀ i₀ exact tally i =
     (i ≤ lines)
     × (length exact ≡ length exact₀)
-    × (exact ≡ rows i (lineOutcome (lent (sources b f) s)) ++ drop (width * i) exact₀)
-    × (tally ≡ total i (lineOutcome (lent (sources b f) s)))
-    × (byLines i (lineOutcome (lent (sources b f) s)) ≡ Accepted)
+    × (exact ≡ rows i (lineOutcome (lent (sources own b f) s)) ++ drop (width * i) exact₀)
+    × (tally ≡ total i (lineOutcome (lent (sources own b f) s)))
+    × (byLines i (lineOutcome (lent (sources own b f) s)) ≡ Accepted)
 
 abbrev μ-loop : tie.MeasureT-loop
-μ-loop b f s lines exact₀ tally₀ i₀ exact tally i = lines - i
+μ-loop own b f s lines exact₀ tally₀ i₀ exact tally i = lines - i
 
 loop-holds : tie.Need-loop-holds Inv-loop μ-loop
 unfolding rows total byLines
@@ -46,44 +46,44 @@ returns c =
 
 line-outcome-requires : tie.Need-line-outcome-requires Inv-loop μ-loop
 line-outcome-requires c κs =
-    let able = c .before .before .before .before .before .before .before .pre in
+    let able = c .before .before .before .before .before .before .before .before .pre in
     record { sources = able .sources; there = able .there (c .before .loop .i) (c .loop-test .taken) }
 
 add-requires : tie.Need-add-requires Inv-loop μ-loop
 add-requires c κs =
-    let entry = c .before .before .before .before .before .before .before .before .before .before .before .before .before .before .before in
+    let entry = c .before .before .before .before .before .before .before .before .before .before .before .before .before .before .before .before in
     let loop = c .before .before .before .before .before .before .before .before .before .loop in
     let line-outcome = c .before .before .before .before .before .before .before .line-outcome in
     let row = c .before .before .before .before .before .row in
-    let table = c .before .before .before .before .before .before .before .before .before .before .before .before .before .shared-slice-known2 in
-    let balances = line-balances (lent (sources (now (entry .args .b)) (now (entry .args .f))) (now (entry .args .s))) (entry .pre .sources .book) (λ i. table .given i .fits) in
+    let table = c .before .before .before .before .before .before .before .before .before .before .before .before .before .shared-slice-known3 in
+    let balances = line-balances (lent (sources (now (entry .args .own)) (now (entry .args .b)) (now (entry .args .f))) (now (entry .args .s))) (entry .pre .sources) (λ i. table .given i .fits) in
     tally-fits _ balances _ (omega arith) (loop .inv .3) (sym (line-outcome .ensures) ∙ row .given .1)
 
-add-t15 : tie.Need-add-t15 Inv-loop μ-loop
-add-t15 c =
-    let few = c .before .before .before .before .before .before .before .before .before .before .before .before .before .before .before .pre .few in
+add-t16 : tie.Need-add-t16 Inv-loop μ-loop
+add-t16 c =
+    let few = c .before .before .before .before .before .before .before .before .before .before .before .before .before .before .before .before .pre .few in
     omega (arith, c .before .before .before .before .before .before .before .before .loop-test .taken, few)
 
-cast-t16 : tie.Need-cast-t16 Inv-loop μ-loop
-cast-t16 c =
-    let few = c .before .before .before .before .before .before .before .before .before .before .before .before .before .before .before .pre .few in
+cast-t17 : tie.Need-cast-t17 Inv-loop μ-loop
+cast-t17 c =
+    let few = c .before .before .before .before .before .before .before .before .before .before .before .before .before .before .before .before .pre .few in
     omega (arith, c .before .before .before .before .before .before .before .before .loop-test .taken, few)
 
 put-row-requires : tie.Need-put-row-requires Inv-loop μ-loop
 put-row-requires c κs =
     let below = c .before .before .before .before .before .loop-test .taken in
-    let fits = c .before .before .before .before .before .before .before .before .before .before .before .before .pre .fits in
+    let fits = c .before .before .before .before .before .before .before .before .before .before .before .before .before .pre .fits in
     omega (arith, below, fits, c .before .before .before .before .before .before .loop .inv .1)
 
 put-row-requires-2 : tie.Need-put-row-requires-2 Inv-loop μ-loop
 put-row-requires-2 c κs =
-    let fits = c .before .before .before .before .before .before .before .before .pre .fits in
+    let fits = c .before .before .before .before .before .before .before .before .before .pre .fits in
     omega (arith, fits, c .before .before .loop .inv .1)
 
 add-i : tie.Need-add-i Inv-loop μ-loop
 add-i c =
     let below = c .before .before .before .before .before .before .before .before .before .loop-test .taken in
-    let few = c .before .before .before .before .before .before .before .before .before .before .before .before .before .before .before .before .pre .few in
+    let few = c .before .before .before .before .before .before .before .before .before .before .before .before .before .before .before .before .before .pre .few in
     omega (arith, below, few)
 
 loop-less : tie.Need-loop-less Inv-loop μ-loop
@@ -106,7 +106,7 @@ loop-again c =
 
 returns-2 : tie.Need-returns-2 Inv-loop μ-loop
 returns-2 c =
-    let entry = c .before .before .before .before .before .before .before .before .before .before .before in
+    let entry = c .before .before .before .before .before .before .before .before .before .before .before .before in
     let loop = c .before .before .before .before .before .loop in
     let e : loop .i ≡ entry .args .lines = omega arith in
     record {
@@ -118,5 +118,5 @@ pub fill-spec : {M : Type 1} → statement M
 fill-spec =
     tie.close
     (tie.spec Inv-loop μ-loop (λ c κs. search needs) loop-holds line-outcome-requires (λ c. search needs) (λ c κs. search needs)
-    add-t15 cast-t16 (λ c. search needs) returns (λ c. search needs) put-row-requires add-requires add-i loop-less loop-again
+    add-t16 cast-t17 (λ c. search needs) returns (λ c. search needs) put-row-requires add-requires add-i loop-less loop-again
     put-row-requires-2 (λ c. search needs) returns-2)

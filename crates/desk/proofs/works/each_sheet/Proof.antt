@@ -14,22 +14,22 @@ use Rattle.desk.proofs.works.each_sheet.Statement.{statement}
 use Rattle.desk.proofs.works.each_sheet.Tie as tie
 
 abbrev Inv-loop : tie.InvT-loop
-Inv-loop book fugitive bundle exact₀ shown₀ outcomes₀ told sheets i₀ exact shown outcomes i =
+Inv-loop own book fugitive bundle exact₀ shown₀ outcomes₀ told sheets i₀ exact shown outcomes i =
     (i ≤ sheets)
     × (length exact ≡ length exact₀)
     × (length shown ≡ length shown₀)
     × (length outcomes ≡ length outcomes₀)
-    × FirstSheets i (sources book fugitive) bundle (results exact₀ shown₀ outcomes₀) (results exact shown outcomes)
+    × FirstSheets i (sources own book fugitive) bundle (results exact₀ shown₀ outcomes₀) (results exact shown outcomes)
 
 abbrev μ-loop : tie.MeasureT-loop
-μ-loop book fugitive bundle exact₀ shown₀ outcomes₀ told sheets i₀ exact shown outcomes i = sheets - i
+μ-loop own book fugitive bundle exact₀ shown₀ outcomes₀ told sheets i₀ exact shown outcomes i = sheets - i
 
 loop-holds : tie.Need-loop-holds Inv-loop μ-loop
 loop-holds c = (search needs, search needs, search needs, search needs, first-none _ _ _)
 
 declare-sheet-requires : tie.Need-declare-sheet-requires Inv-loop μ-loop
 declare-sheet-requires c κs =
-    let entry = c .before .before .before .before .before .before .before .before .before .before .before .before in
+    let entry = c .before .before .before .before .before .before .before .before .before .before .before .before .before in
     let loop = c .before .before .before .loop in
     let below = c .before .before .loop-test .taken in
     let inside = run-inside (now (entry .args .bundle)) (loop .i) (omega (arith, below, c .before .before .before .before .sheet-count .ensures .eq)) in
@@ -44,7 +44,7 @@ slice-write-outcomes c =
     let loop = c .before .before .before .before .before .before .before .before .before .loop in
     let count = c .before .before .before .before .before .before .before .before .before .before .sheet-count .ensures .eq in
     let below = c .before .before .before .before .before .before .before .before .loop-test .taken in
-    let room = outcomes-room _ _ _ _ (c .before .before .before .before .before .before .before .before .before .before .before .before .before .before .before .before .before .before .pre) in
+    let room = outcomes-room _ _ _ _ (c .before .before .before .before .before .before .before .before .before .before .before .before .before .before .before .before .before .before .before .pre) in
     omega (arith, room, loop .inv .3, below, count)
 
 mul-outcomes : tie.Need-mul-outcomes Inv-loop μ-loop
@@ -55,7 +55,7 @@ mul-outcomes c =
 
 loop-again : tie.Need-loop-again Inv-loop μ-loop
 loop-again c =
-    let entry = c .before .before .before .before .before .before .before .before .before .before .before .before .before .before .before .before .before .before in
+    let entry = c .before .before .before .before .before .before .before .before .before .before .before .before .before .before .before .before .before .before .before in
     let loop = c .before .before .before .before .before .before .before .before .before .loop in
     let count = c .before .before .before .before .before .before .before .before .before .before .sheet-count .ensures .eq in
     let below = c .before .before .before .before .before .before .before .before .loop-test .taken in
@@ -76,7 +76,7 @@ loop-again c =
 returns : tie.Need-returns Inv-loop μ-loop
 returns c =
     let loop = c .before .loop in
-    let bundle = now (c .before .before .before .before .before .before .before .before .before .before .args .bundle) in
+    let bundle = now (c .before .before .before .before .before .before .before .before .before .before .before .args .bundle) in
     let all : loop .i ≡ sheetCount bundle = omega (arith, c .loop-test .left, loop .inv .0, c .before .before .sheet-count .ensures .eq) in
     rw all at (loop .inv .4)
 

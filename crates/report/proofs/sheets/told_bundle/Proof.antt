@@ -19,7 +19,7 @@ returns c =
     let desk = c .before .before .before .before .before .before .before .before .before .before .before .before .declare-bundle .ensures in
     let yes = c .before .before .before .before .before .before .before .enum-told .given .1 in
     let taken = sym (desk .answer) ∙ yes in
-    let table = c .before .before .before .before .before .before .before .before .before .before .before .before .before .before .before .before .before .before .shared-slice-known2 in
+    let table = c .before .before .before .before .before .before .before .before .before .before .before .before .before .before .before .before .before .before .shared-slice-known3 in
     whole-taken _ _ taken (rw (taken-told _ _ _ _ (taken-room _ _ _ _ taken) (λ i. table .given i .fits) (desk .taken yes)) at (c .before .before .tell-sheets .ensures))
 
 returns-2 : tie.Need-returns-2

@@ -14,7 +14,7 @@ returns : tie.Need-returns
 unfolding reportOf
 returns c =
     let desk = c .before .before .before .before .before .before .before .before .before .declare .ensures in
-    let table = c .before .before .before .before .before .before .before .before .before .before .before .before .before .before .shared-slice-known2 in
+    let table = c .before .before .before .before .before .before .before .before .before .before .before .before .before .before .shared-slice-known3 in
     rw (← desk .demand1 .answer) (rw (c .before .before .before .before .before .code .ensures, told-is _ _ _ _ _ _ desk (λ i. table .given i .fits)) at (c .before .before .tell .ensures))
 
 pub told-spec : {M : Type 1} → statement M

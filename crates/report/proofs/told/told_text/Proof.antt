@@ -9,14 +9,16 @@ use Rattle.report.proofs.told.told_text.Tie as tie
 returns : tie.Need-returns
 unfolding textReportOf
 returns c =
-    let read = gave _ _ _ _ (c .before .before .before .before .before .before .before .before .before .before .sheet-from-text .ensures) _ (c .before .before .before .before .before .before .before .bytes .given .1) in
+    let made = c .before .before .before .before .before .before .before .before .before .before .sheet-from-text .ensures in
+    let read = gave _ _ _ _ made _ (c .before .before .before .before .before .before .before .bytes .given .1) in
     rw (read .1 .0) (rw (c .before .before .before .before .part .ensures, read .1 .1) at (c .before .before .told .ensures))
 
 returns-2 : tie.Need-returns-2
 unfolding textReportOf
 returns-2 c =
-    let refusal = refused-is _ _ _ _ (c .before .before .before .before .before .before .before .before .before .sheet-from-text .ensures)
-    (λ s. made-size (c .before .before .before .before .before .before .before .before .before .before .before .before .before .before .before .args .typed .now) s) _ (c .before .before .before .before .before .before .refused .given .1) in
+    let args = c .before .before .before .before .before .before .before .before .before .before .before .before .before .before .before .before .args in
+    let read = c .before .before .before .before .before .before .before .before .before .sheet-from-text .ensures in
+    let refusal = refused-is _ _ _ _ read (λ s. made-size (args .typed .now) s) _ (c .before .before .before .before .before .before .refused .given .1) in
     rw refusal (rw (c .before .before .before .before .sources-first .ensures) at (c .before .before .tell-refusal .ensures))
 
 pub told-text-spec : {M : Type 1} → statement M

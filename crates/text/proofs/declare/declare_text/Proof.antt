@@ -14,7 +14,7 @@ returns c =
 returns-2 : tie.Need-returns-2
 returns-2 c =
     let refusal = refused-is _ _ _ _ (c .before .before .before .before .before .before .before .before .before .before .before .sheet-from-text .ensures)
-    (λ s. made-size (c .before .before .before .before .before .before .before .before .before .before .before .before .before .before .before .before .before .before .args .text .now) s) _
+    (λ s. made-size (c .before .before .before .before .before .before .before .before .before .before .before .before .before .before .before .before .before .before .before .args .text .now) s) _
     (c .before .before .before .before .before .before .before .before .refusal .given .1) in
     rw refusal (c .before .before .before .before .no-sheet .ensures)
 

@@ -19,7 +19,7 @@ use little::read::BYTE_RANGE;
 use little::read::U16_RANGE;
 use search::found::Found;
 
-// Where the row of a key is: in which book, and the how-manieth it is there, counted from 0.
+// Where the row of a key is: in which book, and which row of it, counted from 0.
 pub enum RowPlace {
     InOwn(usize),
     InPublished(usize),

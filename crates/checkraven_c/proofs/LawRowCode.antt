@@ -13,7 +13,7 @@ use Rattle.answers.specs.Answer.{numberUnit}
 use Rattle.desk.specs.Books.{rowBytes, rowNumber}
 use Rattle.desk.specs.declared.key.Key.{Key}
 use Rattle.desk.proofs.LawBooks.{whole-or-none, number-few}
-use Rattle.report.specs.Report.{writtenOf, textAfter}
+use Rattle.report.specs.Report.{textAfter}
 use Rattle.report.specs.Row.{mostRowBytes}
 use Rattle.report.proofs.LawReported.{wrote-once, written-all, written-none}
 use Rattle.checkraven_c.specs.TextCode.{writtenCode}

@@ -1,12 +1,11 @@
 -- An own book that changes nothing, and what is shut out of the search in two books: versions that ask the published book first, skip the
 -- own book's scale 0, read techniques in the other book, look at the published book first, or hand back bytes that are one off.
 use Prim.Native.Nat.{ℕ, _+_, _<_, min}
-use mathlib.Core.Path.{_≡_, refl, sym, ap, _∙_}
+use mathlib.Core.Path.{_≡_, refl, ap, _∙_}
 use mathlib.Core.Bool.{true, false}
-use mathlib.Core.List.{List, [], _∷_, _++_}
-use mathlib.Core.Logic.{_≢_}
+use mathlib.Core.List.{List, [], _∷_}
 use native.Mathlib.Omega.{arith}
-use lib.ListN.{length, drop}
+use lib.ListN.{length}
 use Rattle.search.specs.First.{first}
 use Rattle.search.specs.Test.{all, every}
 use Rattle.search.specs.declared.found.Found.{Found}
@@ -25,7 +24,7 @@ use Rattle.fugitive.specs.Grades.{isGiven, gradesBad}
 use Rattle.answers.specs.declared.answer.LineFault.the-variants.{NoTechnique}
 use Rattle.answers.specs.declared.answer.FileFault.the-variants.{OwnBookMalformed, BookMalformed}
 use Rattle.answers.specs.declared.answer.Outcome.{Outcome}
-use Rattle.answers.specs.declared.answer.Outcome.the-variants.{Accepted, RefusedFile, RefusedLine}
+use Rattle.answers.specs.declared.answer.Outcome.the-variants.{RefusedFile}
 use Rattle.desk.specs.Lent.{Sources, sources, lent}
 use Rattle.desk.specs.Key.{keyFrom, keySame, allScales}
 use Rattle.desk.specs.Book.{bookOk, rowStart, keyAt, rowOk, fieldsOk, coefficientAt, techniquesOk, rises}
@@ -35,7 +34,7 @@ use Rattle.desk.specs.Technique.{techniqueHas, techniqueIndex}
 use Rattle.desk.specs.Line.{lineOf}
 use Rattle.desk.specs.Dust.{dustOf}
 use Rattle.desk.specs.Account.{treatmentOf, generatedOf, accountIn, accountOf, lineOutcome}
-use Rattle.desk.specs.Table.{byPublished, bySources, byFiles, byLines, answerOf, tableOf, cellsAfter}
+use Rattle.desk.specs.Table.{byPublished, bySources, byFiles, answerOf, tableOf, cellsAfter}
 use Rattle.desk.specs.Declare.{shownAfter, Declared}
 use Rattle.desk.specs.Inner.{atScale}
 use Rattle.desk.specs.OneBook.{lineByOne, answerByOne, AsWithOne}

@@ -1,5 +1,4 @@
 -- The seven tests, one after the other.
-use borrow.Author.Needs.{needs}
 use Rattle.search.specs.Test.{every}
 use Rattle.desk.specs.Books.{fieldsHold}
 use Rattle.desk.proofs.books.fields_hold.Statement.{statement}

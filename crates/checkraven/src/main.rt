@@ -1,5 +1,5 @@
-// The desk as a program: in the folder it is started in it reads `own.bin` where that is there, `book.bin`, `fugitive.bin`, and `bundle.bin`
-// where that is there, else `sheet.bin`, else `sheet.csv`, and prints the report.
+// The desk as a program: in the folder it is started in it reads `own.bin` where that is there, `book.bin`, `fugitive.bin`, and
+// `bundle.bin` where that is there, else `sheet.bin`, else `sheet.csv`, and prints the report.
 ghost use mathlib.Core.Path.{_≡_};
 ghost use Prim.Native.Nat.{_≤_};
 ghost use lib.ListN.{length, take};

@@ -139,8 +139,8 @@ fn key_of(
     }
 }
 
-// The bytes of the row that answers for these seven, below 65,536, and 0 where none does; or rule 3's number times 65,536, where they have no
-// room. The lent bytes are left as the report leaves them.
+// The bytes of the row that answers for these seven, below 65,536, and 0 where none does; or rule 3's number times 65,536, where they have
+// no room. The lent bytes are left as the report leaves them.
 #[no_mangle]
 pub extern "C" fn checkraven_row<'a>(
     own: &'a [u8],
@@ -182,7 +182,8 @@ pub extern "C" fn checkraven_row_number(
     medium: u64,
     pollutant: u64,
 ) -> u64
-    ensures { λ r. ⌜ r ≡ rowNumber (now (own .entry)) (now (book .entry)) (keyOf industry product material process scale medium pollutant) ⌝ }
+    ensures { λ r. ⌜ r ≡ rowNumber (now (own .entry)) (now (book .entry))
+        (keyOf industry product material process scale medium pollutant) ⌝ }
 {
     let key = key_of(
         industry,

@@ -49,7 +49,7 @@ use Rattle.desk.proofs.LawShutOut.{book, noEntries, noRows}
 
 -- ---- an own book that changes nothing
 
--- where the published book answers for every key, or has the bytes of the own one
+-- where the books are told apart neither by what is wrong with them nor by which one answers
 module _ (own b f s : List ℕ) (told : bySources (sources own b f) ≡ byPublished b f) (asked : (k : Key) → bookFor (sources own b f) k ≡ b) where
   each : (i : ℕ) → i < lineCount s → lineOutcome (lent (sources own b f) s) i ≡ lineByOne b f s i
   unfolding lineOutcome accountOf
@@ -93,17 +93,17 @@ module _ (b f s exact shown : List ℕ) (r : Outcome) (exact' shown' : List ℕ)
   own-without-rows own right none p =
       as-with-one own b f s (rw right) (λ k. rw (no-rows own k none) (published-at (sources own b f) (rowIndex b k))) exact shown r exact' shown' p
 
-  same-at : (k : Key) (place : RowPlace) → bookAt (sources b b f) place ≡ b
-  same-at k (InOwn i) = refl
-  same-at k (InPublished i) = refl
-  same-at k InNeither = refl
+  same-at : (place : RowPlace) → bookAt (sources b b f) place ≡ b
+  same-at (InOwn i) = refl
+  same-at (InPublished i) = refl
+  same-at InNeither = refl
 
   -- an own book that is the published one, of any content
   pub own-is-published : Declared (lent (sources b b f) s) exact shown r exact' shown' → AsWithOne b f s exact shown r exact' shown'
   unfolding bySources byPublished bookFor answerOf byFiles
   own-is-published p =
       either-way (bookOk b)
-      (λ right. as-with-one b b f s (rw right) (λ k. same-at k (rowPlace b b k)) exact shown r exact' shown' p)
+      (λ right. as-with-one b b f s (rw right) (λ k. same-at (rowPlace b b k)) exact shown r exact' shown' p)
       (λ wrong.
       let refused : r ≡ RefusedFile OwnBookMalformed = rw wrong at (p .demand1 .answer) in
       record {

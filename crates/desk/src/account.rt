@@ -149,7 +149,8 @@ fn by_row(b: &[u8], i: usize, f: &[u8], line: Line) -> LineOutcome
 
 fn by_books(own: &[u8], b: &[u8], f: &[u8], line: Line) -> LineOutcome
     requires { ⌜ Accountable (sources (now own) (now b) (now f)) line ⌝ }
-    ensures { λ r. ⌜ r ≡ byBook (bookFor (sources (now (own .entry)) (now (b .entry)) (now (f .entry))) (line .key)) (now (f .entry)) line ⌝ }
+    ensures { λ r. ⌜ r ≡ byBook (bookFor (sources (now (own .entry)) (now (b .entry)) (now (f .entry))) (line .key))
+        (now (f .entry)) line ⌝ }
 {
     let key = line.key;
     match row_place(own, b, key) {

@@ -1,7 +1,10 @@
--- What the answer's one number tells: it is 0 for accepted alone, and its two parts are the number and the line.
-use Prim.Native.Nat.{_/_, _%_, _≤_, _<_}
-use mathlib.Core.Path.{_≡_, refl}
+-- What the answer's one number tells: it is 0 for accepted alone, and its two parts are the number and the line; of a step and of a count it
+-- tells the case.
+use Prim.Native.Nat.{ℕ, _*_, _/_, _%_, _≤_, _<_}
+use mathlib.Core.Path.{_≡_, refl, sym, ap, _∙_}
+use mathlib.Core.Bool.{cond}
 use native.Mathlib.Omega.{arith}
+use lib.Dec.{eqb}
 use Rattle.answers.specs.Answer.{fileRule, lineRule, answerNumber, answerLine, numberUnit, codeOf}
 use Rattle.answers.specs.declared.answer.FileFault.{FileFault}
 use Rattle.answers.specs.declared.answer.FileFault.the-variants.{OwnBookMalformed, BookMalformed, FugitiveMalformed, SheetMalformed, TextMalformed, ResultTooShort}
@@ -9,6 +12,11 @@ use Rattle.answers.specs.declared.answer.LineFault.{LineFault}
 use Rattle.answers.specs.declared.answer.LineFault.the-variants as line
 use Rattle.answers.specs.declared.answer.Outcome.{Outcome}
 use Rattle.answers.specs.declared.answer.Outcome.the-variants.{Accepted, RefusedFile, RefusedLine}
+use Rattle.answers.specs.Step.{tableRule, stepCode, countCode}
+use Rattle.answers.specs.declared.step.StepOutcome.{StepOutcome}
+use Rattle.answers.specs.declared.step.StepOutcome.the-variants.{Changed, Whole, TableOff}
+use Rattle.answers.specs.declared.step.StepOutcome.the-variants as step
+use Rattle.answers.specs.declared.step.CountOutcome.the-variants as count
 
 -- a rule's number is at least 1
 pub file-some : (k : FileFault) → 1 ≤ fileRule k
@@ -43,3 +51,21 @@ module _ (r : Outcome) (small : answerLine r < numberUnit) where
 
   pub code-line : codeOf r % numberUnit ≡ answerLine r
   code-line = omega (arith, small)
+
+-- no two answers to a step have one number: each is read back from it
+stepFrom : ℕ → StepOutcome
+stepFrom n = cond (eqb n 0) Whole (cond (eqb n 1) Changed (cond (eqb n (tableRule * numberUnit)) TableOff step.ResultTooShort))
+
+step-back : (r : StepOutcome) → stepFrom (stepCode r) ≡ r
+unfolding stepFrom
+step-back Changed = refl
+step-back Whole = refl
+step-back TableOff = refl
+step-back step.ResultTooShort = refl
+
+pub step-code-tells : (r q : StepOutcome) → stepCode r ≡ stepCode q → r ≡ q
+step-code-tells r q e = sym (step-back r) ∙ ap stepFrom e ∙ step-back q
+
+-- no count of a table looks like a refusal
+pub count-code-tells : (n : ℕ) → n < numberUnit → countCode (count.Changes n) < countCode count.TableOff
+count-code-tells n small = omega (arith, small)

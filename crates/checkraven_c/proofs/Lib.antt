@@ -3,3 +3,4 @@ pub mod LawTextCode
 pub mod LawBundleCode
 pub mod LawConvertCode
 pub mod LawRowCode
+pub mod LawStepCode

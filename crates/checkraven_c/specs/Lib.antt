@@ -3,3 +3,4 @@ pub mod TextCode
 pub mod BundleCode
 pub mod ConvertCode
 pub mod RowCode
+pub mod StepCode

@@ -6,6 +6,7 @@ ghost use Rattle.checkraven_c.specs.TextCode.{writtenCode, Reports};
 ghost use Rattle.checkraven_c.specs.BundleCode.{AccountsBundle};
 ghost use Rattle.checkraven_c.specs.ConvertCode.{ConvertsCode, AccountsText};
 ghost use Rattle.checkraven_c.specs.RowCode.{keyOf, ShowsRow};
+ghost use Rattle.checkraven_c.specs.StepCode.{StepsCode, CountsCode};
 ghost use Rattle.desk.specs.Works.{results};
 ghost use Rattle.desk.specs.Books.{rowNumber};
 ghost use Rattle.text.specs.Read.{sheetOfText};
@@ -18,6 +19,8 @@ use desk::works::declare_bundle;
 use report::Written;
 use report::report;
 use report::report_row;
+use steps::count::settling_steps;
+use steps::step::settling_step;
 use text::declare::declare_text;
 use text::read::sheet_from_text;
 use text::write::text_from_sheet;
@@ -195,4 +198,20 @@ pub extern "C" fn checkraven_row_number(
         pollutant,
     );
     row_number(own, book, key) as u64
+}
+
+// 1 where something changed, 0 where the table is whole; else the refusal's number times 65,536. The result is left as the step leaves it.
+#[no_mangle]
+pub extern "C" fn checkraven_step(unit: u64, table: &[u64], next: &mut [u64]) -> u64
+    ensures { λ r. ⌜ StepsCode unit (now (table .entry)) (now (next .entry)) r (now (next .exit)) ⌝ }
+{
+    settling_step(unit, table, next).code()
+}
+
+// How many steps change something, below 65,536; or the refusal's number times 65,536.
+#[no_mangle]
+pub extern "C" fn checkraven_steps(unit: u64, table: &[u64]) -> u64
+    ensures { λ r. ⌜ CountsCode unit (now (table .entry)) r ⌝ }
+{
+    settling_steps(unit, table).code()
 }

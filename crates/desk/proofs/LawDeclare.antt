@@ -36,7 +36,7 @@ use Rattle.desk.proofs.LawColumns.{zip, zip-at, zeros-at, Balanced, bal
 use Rattle.desk.proofs.LawTable.{length-rows, line-balanced, total-balanced, lines-few}
 
 -- each unit of a sheet divides the limit of a cell
-unit-whole : (code : ℕ) → (0 < unitOf code) × Whole (unitOf code) limit
+pub unit-whole : (code : ℕ) → (0 < unitOf code) × Whole (unitOf code) limit
 unfolding unitOf
 unit-whole code = go (eqb code 1) (eqb code 2)
   where

@@ -1,8 +1,8 @@
 -- The shown unit: W, in units of 10 micrograms.
 use Prim.Native.Nat.{ℕ}
-use mathlib.Core.Bool.{cond}
+use mathlib.Core.Bool.{Bool, cond, _&&_}
 use mathlib.Core.List.{List}
-use lib.Dec.{eqb}
+use lib.Dec.{eqb, leb}
 use Rattle.headers.specs.Sheet.{sheetHeader}
 
 -- one unit is 10 micrograms
@@ -14,6 +14,10 @@ kilogram = 100_000_000
 
 abbrev pub tonne : ℕ
 tonne = 100_000_000_000
+
+-- the codes of shown units
+abbrev pub isUnit : (code : ℕ) → Bool
+isUnit code = leb 1 code && leb code 3
 
 -- W for a shown unit: 1 gram, 2 kilogram, else tonne
 unfoldable pub unitOf : (code : ℕ) → ℕ

@@ -1,21 +1,12 @@
--- By the unit's code.
+-- By the code that the sheet has.
+use mathlib.Core.Path.{ap, _∙_}
 use borrow.Author.Needs.{needs}
-use borrow.Author.Tests.{eq-eqb, ne-eqb}
 use Rattle.headers.specs.Unit.{unitOf}
 use Rattle.headers.proofs.unit.unit_of.Statement.{statement}
 use Rattle.headers.proofs.unit.unit_of.Tie as tie
 
 returns : tie.Need-returns
-unfolding unitOf
-returns c = rw (← c .before .u32-at .ensures .eq, eq-eqb _ _ (c .if1 .taken))
-
-returns-2 : tie.Need-returns-2
-unfolding unitOf
-returns-2 c = rw (← c .before .before .u32-at .ensures .eq, ne-eqb _ _ (c .before .if1 .left), eq-eqb _ _ (c .if2 .taken))
-
-returns-3 : tie.Need-returns-3
-unfolding unitOf
-returns-3 c = rw (← c .before .before .u32-at .ensures .eq, ne-eqb _ _ (c .before .if1 .left), ne-eqb _ _ (c .if2 .left))
+returns c = c .unit-from .ensures ∙ ap unitOf (c .before .u32-at .ensures .eq)
 
 pub unit-of-spec : {M : Type 1} → statement M
-unit-of-spec = tie.close (tie.spec (λ c κs. search needs) returns returns-2 returns-3)
+unit-of-spec = tie.close (tie.spec (λ c κs. search needs) (λ c κs. search needs) returns)

@@ -1,0 +1,5 @@
+pub mod Table
+pub mod Step
+pub mod Count
+pub mod Ends
+pub mod Inner

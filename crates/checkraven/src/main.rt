@@ -1,5 +1,10 @@
 // The desk as a program: in the folder it is started in it reads `own.bin` where that is there, `book.bin`, `fugitive.bin`, and
-// `bundle.bin` where that is there, else `sheet.bin`, else `sheet.csv`, and prints the report.
+// `bundle.bin` where that is there, else `sheet.bin`, else `sheet.csv`, and prints the report; asked by `--settle`, how the shown table is
+// settled.
+mod picture;
+mod put;
+mod settled;
+
 ghost use mathlib.Core.Path.{_≡_};
 ghost use Prim.Native.Nat.{_≤_};
 ghost use lib.ListN.{length, take};
@@ -13,6 +18,7 @@ use libc::ENOENT;
 use libc::STDERR_FILENO;
 use libc::STDOUT_FILENO;
 use little::part::part;
+use little::read::u32_at;
 use numerals::bytes::lay;
 use report::MOST_BUNDLE_TEXT;
 use report::MOST_TEXT;
@@ -20,6 +26,35 @@ use report::Written;
 use report::report;
 use report::report_bundle;
 use report::report_text;
+use settled::settled_bundle;
+use settled::settled_sheet;
+use settled::settled_text;
+
+// The longest word that is asked for, and one byte more, so that a longer one is not taken for it.
+const MOST_WORD: usize = 9;
+
+// What is printed of the folder.
+enum Asked {
+    Figures,
+    Settling,
+}
+
+// The word has eight letters, which are compared four at a time.
+fn is_settle(word: &[u8]) -> bool {
+    (word.len() == 8)
+        & (u32_at(word, 0) == u32_at(b"--se", 0))
+        & (u32_at(word, 4) == u32_at(b"ttle", 0))
+}
+
+fn read_asked() -> Asked {
+    let mut word = [0u8; MOST_WORD];
+    let letters = os::arg(1, &mut word);
+    if is_settle(part(&word, 0, letters)) {
+        Asked::Settling
+    } else {
+        Asked::Figures
+    }
+}
 
 // A file that could not be opened counts as empty.
 fn load_open(file: i32, room: &mut [u8]) -> usize {
@@ -102,61 +137,80 @@ fn whole_bundle_report(
     }
 }
 
-// One write, and a word on standard error where it fails.
-fn print(text: &[u8]) {
-    if io::write_all(STDOUT_FILENO, text) {
-        return;
+// A word on standard error where something could not be written.
+fn told(written: bool) {
+    if !written {
+        io::write_all(
+            STDERR_FILENO,
+            b"checkraven: the report could not be written\n",
+        );
     }
-    io::write_all(
-        STDERR_FILENO,
-        b"checkraven: the report could not be written\n",
-    );
+}
+
+// One write.
+fn print(text: &[u8], bytes: usize) {
+    told(io::write_all(STDOUT_FILENO, part(text, 0, bytes)));
+}
+
+fn print_report(own: &[u8], book: &[u8], fugitive: &[u8], sheet: &[u8]) {
+    let mut text = [0u8; MOST_TEXT];
+    let bytes = whole_report(own, book, fugitive, sheet, &mut text);
+    print(&text, bytes);
+}
+
+fn print_text_report(own: &[u8], book: &[u8], fugitive: &[u8], typed: &[u8]) {
+    let mut text = [0u8; MOST_TEXT];
+    let bytes = whole_text_report(own, book, fugitive, typed, &mut text);
+    print(&text, bytes);
+}
+
+fn print_bundle_report(own: &[u8], book: &[u8], fugitive: &[u8], bundle: &[u8]) {
+    let mut text = [0u8; MOST_BUNDLE_TEXT];
+    let bytes = whole_bundle_report(own, book, fugitive, bundle, &mut text);
+    print(&text, bytes);
 }
 
 // Here and below one byte more than the limit is read, so that a longer file is refused and not cut.
-fn print_sheet(own: &[u8], book: &[u8], fugitive: &[u8], file: i32) {
+fn print_sheet(asked: Asked, own: &[u8], book: &[u8], fugitive: &[u8], file: i32) {
     let mut sheet = [0u8; MOST_BYTES + 1];
-    let sheet_bytes = load_open(file, &mut sheet);
-    let mut text = [0u8; MOST_TEXT];
-    let bytes = whole_report(own, book, fugitive, part(&sheet, 0, sheet_bytes), &mut text);
-    print(part(&text, 0, bytes));
+    let bytes = load_open(file, &mut sheet);
+    match asked {
+        Asked::Figures => print_report(own, book, fugitive, part(&sheet, 0, bytes)),
+        Asked::Settling => told(settled_sheet(own, book, fugitive, part(&sheet, 0, bytes))),
+    }
 }
 
-fn print_typed(own: &[u8], book: &[u8], fugitive: &[u8], file: i32) {
+fn print_typed(asked: Asked, own: &[u8], book: &[u8], fugitive: &[u8], file: i32) {
     let mut typed = [0u8; MOST_BYTES + 1];
-    let typed_bytes = load_open(file, &mut typed);
-    let mut text = [0u8; MOST_TEXT];
-    let bytes = whole_text_report(own, book, fugitive, part(&typed, 0, typed_bytes), &mut text);
-    print(part(&text, 0, bytes));
+    let bytes = load_open(file, &mut typed);
+    match asked {
+        Asked::Figures => print_text_report(own, book, fugitive, part(&typed, 0, bytes)),
+        Asked::Settling => told(settled_text(own, book, fugitive, part(&typed, 0, bytes))),
+    }
 }
 
 // A binary sheet that is there is taken, also where it cannot be read; and where there is no sheet at all, it counts as an empty one.
-fn print_either(own: &[u8], book: &[u8], fugitive: &[u8]) {
+fn print_either(asked: Asked, own: &[u8], book: &[u8], fugitive: &[u8]) {
     let file = os::open_read(b"sheet.bin");
     if is_missing(file) {
         let typed = os::open_read(b"sheet.csv");
         if is_missing(typed) {
-            print_sheet(own, book, fugitive, file);
+            print_sheet(asked, own, book, fugitive, file);
         } else {
-            print_typed(own, book, fugitive, typed);
+            print_typed(asked, own, book, fugitive, typed);
         }
     } else {
-        print_sheet(own, book, fugitive, file);
+        print_sheet(asked, own, book, fugitive, file);
     }
 }
 
-fn print_bundle(own: &[u8], book: &[u8], fugitive: &[u8], file: i32) {
+fn print_bundle(asked: Asked, own: &[u8], book: &[u8], fugitive: &[u8], file: i32) {
     let mut bundle = [0u8; MOST_BYTES + 1];
-    let bundle_bytes = load_open(file, &mut bundle);
-    let mut text = [0u8; MOST_BUNDLE_TEXT];
-    let bytes = whole_bundle_report(
-        own,
-        book,
-        fugitive,
-        part(&bundle, 0, bundle_bytes),
-        &mut text,
-    );
-    print(part(&text, 0, bytes));
+    let bytes = load_open(file, &mut bundle);
+    match asked {
+        Asked::Figures => print_bundle_report(own, book, fugitive, part(&bundle, 0, bytes)),
+        Asked::Settling => told(settled_bundle(own, book, fugitive, part(&bundle, 0, bytes))),
+    }
 }
 
 // A bundle that is there but cannot be read is refused as an empty one: the folder's sheet must not be declared in its place.
@@ -170,12 +224,14 @@ fn main() {
     let file = os::open_read(b"bundle.bin");
     if is_missing(file) {
         print_either(
+            read_asked(),
             part(&own, 0, own_bytes),
             part(&book, 0, book_bytes),
             part(&fugitive, 0, fugitive_bytes),
         );
     } else {
         print_bundle(
+            read_asked(),
             part(&own, 0, own_bytes),
             part(&book, 0, book_bytes),
             part(&fugitive, 0, fugitive_bytes),

@@ -1,6 +1,8 @@
-// The paper's figures, worked and printed: those of the amounts first, then runs of the desk over the folders of data/.
+// The paper's figures, worked and printed: those of the amounts first, then runs of the desk over the folders of data/, then
+// tables that are settled step by step.
 mod print;
 mod runs;
+mod settled;
 mod worked;
 
 fn main() {
@@ -13,4 +15,5 @@ fn main() {
     runs::own_runs();
     runs::bundle_runs();
     runs::typed_runs();
+    settled::settlings();
 }

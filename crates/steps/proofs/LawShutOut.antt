@@ -4,11 +4,13 @@ use mathlib.Core.Logic.{_≢_, ⊎-elim}
 use mathlib.Core.Bool.{true, false}
 use mathlib.Core.List.{List, [], _∷_}
 use Prim.Native.Nat.{ℕ, suc, _+_, _-_, _*_, _≤_, _<_}
+use native.Mathlib.Decide.{ℕ-discrete, decLt, decLe}
 use native.Mathlib.Omega.{arith}
 use lib.ListN.{length}
 use Rattle.search.proofs.LawTest.{either-way}
-use Rattle.settle.specs.Grid.{Grid}
+use Rattle.settle.specs.Grid.{Grid, grid}
 use Rattle.settle.specs.Shown.{at, sum}
+use Rattle.settle.specs.Step.{seek, closes, walk, endColumn, moveBy, least, rises, moveRound, stepMirrored, markedCell, mirrorCell, mirrors, step}
 use Rattle.settle.specs.Moves.{Among, OneRound}
 use Rattle.answers.specs.declared.step.StepOutcome.the-variants.{TableOff}
 use Rattle.answers.specs.declared.step.CountOutcome.the-variants as count
@@ -34,6 +36,21 @@ module _ {g : Grid} {t s cells : List ℕ} {d : ℕ} (h : OneRound g t s cells d
   two-amounts v w p q differ =
       let still : (i : ℕ) → moved t s i ≢ 0 → (Among i cells → ⊥) → ⊥ = λ i n a. n (omega (arith, h .others i a)) in
       still v p (λ a. still w q (λ b. differ (moved-amount v a ∙ sym (moved-amount w b))))
+
+-- a second round moved with the first: two rings of four cells, lines 1 and 2 in R and U, lines 3 and 4 in D and F, in units of ten. The step
+-- moves the first; both at once is no step
+abbrev two-rings : List ℕ
+two-rings = 10 ∷ 3 ∷ 7 ∷ 0 ∷ 0 ∷ 10 ∷ 7 ∷ 3 ∷ 0 ∷ 0 ∷ 10 ∷ 0 ∷ 0 ∷ 3 ∷ 7 ∷ 10 ∷ 0 ∷ 0 ∷ 7 ∷ 3 ∷ 40 ∷ 10 ∷ 10 ∷ 10 ∷ 10 ∷ []
+
+abbrev both-moved : List ℕ
+both-moved = 10 ∷ 10 ∷ 0 ∷ 0 ∷ 0 ∷ 10 ∷ 0 ∷ 10 ∷ 0 ∷ 0 ∷ 10 ∷ 0 ∷ 0 ∷ 10 ∷ 0 ∷ 10 ∷ 0 ∷ 0 ∷ 0 ∷ 10 ∷ 40 ∷ 10 ∷ 10 ∷ 10 ∷ 10 ∷ []
+
+first-stays : at (step (grid 10 5 5 3) two-rings) 13 ≡ 3
+unfolding step stepMirrored markedCell moveRound moveBy least rises walk closes seek endColumn mirrors mirrorCell ℕ-discrete decLt decLe
+first-stays = refl
+
+pub second-round : SettlingStep (grid 10 5 5 3) two-rings both-moved → ⊥
+second-round h = let e : _≡_ {A = ℕ} 10 3 = ap (λ (s : List ℕ). at s 13) (h .fixed) ∙ first-stays in omega arith
 
 -- a whole table that changes, and a table with a loose cell that does not
 pub whole-changed : {g : Grid} {t s : List ℕ} → SettlingStep g t s → WholeTable g t → s ≢ t → ⊥

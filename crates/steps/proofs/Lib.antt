@@ -4,3 +4,4 @@ pub mod LawAnswer
 pub mod LawOnce
 pub mod LawEnds
 pub mod LawShutOut
+pub mod Worked

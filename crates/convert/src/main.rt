@@ -1,6 +1,7 @@
 // A sheet converted, in the folder that the program is started in: `--to-csv` prints the text of `sheet.bin`; `--from-csv` makes
 // `sheet.bin` from `sheet.csv`, where there is no such file yet, and prints what it did. A file that is not there counts as empty.
 use answers::answer::Outcome;
+use check::same;
 use headers::house::MOST_BYTES;
 use libc::EEXIST;
 use libc::STDERR_FILENO;
@@ -93,20 +94,6 @@ fn from_csv() {
         Converted::Bytes(bytes) => create_sheet(part(&sheet, 0, bytes)),
         Converted::Refused(refusal) => print_refusal(refusal),
     }
-}
-
-fn same(a: &[u8], b: &[u8]) -> bool {
-    if a.len() != b.len() {
-        return false;
-    }
-    let mut i = 0;
-    while i < a.len() {
-        if a[i] != b[i] {
-            return false;
-        }
-        i += 1;
-    }
-    true
 }
 
 fn main() {

@@ -4,7 +4,8 @@
  *
  * Usage: stack OWN BOOK FUGITIVE SHEET BUNDLE, five files. Prints a line for each
  * function: its name, the bytes, and its answer. The text is the one that the library
- * writes of the sheet, and the row the one of its first line. Each call is made once before, so that nothing is left to the
+ * writes of the sheet, the row the one of its first line, and the table that is
+ * settled its exact one. Each call is made once before, so that nothing is left to the
  * loader, and on two colours, of which the deeper counts: a byte may be written
  * in one's colour.
  */
@@ -95,6 +96,22 @@ static uint64_t row_number(void)
                                  sheet.bytes[6], sheet.bytes[7]);
 }
 
+/* Of the exact table, which an account before has left. */
+static size_t table_cells(void)
+{
+    return CHECKRAVEN_CELLS(sheet.bytes[4] + 256 * sheet.bytes[5]);
+}
+
+static uint64_t step(void)
+{
+    return checkraven_step(sheet.bytes[12], exact, table_cells(), shown, RESULT_CELLS);
+}
+
+static uint64_t steps(void)
+{
+    return checkraven_steps(sheet.bytes[12], exact, table_cells());
+}
+
 typedef struct { const char *name; uint64_t (*call)(void); uint64_t answer; } Entry;
 
 static void *on_the_stack(void *entry)
@@ -141,6 +158,8 @@ int main(int count, char **words)
         {"checkraven_text_from_sheet", text_from_sheet, 0},
         {"checkraven_row", row, 0},
         {"checkraven_row_number", row_number, 0},
+        {"checkraven_step", step, 0},
+        {"checkraven_steps", steps, 0},
     };
     Entry empty = {"nothing", nothing, 0};
     if (count != 6 || posix_memalign((void **)&stack, 4096, STACK_BYTES) != 0)

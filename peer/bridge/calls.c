@@ -21,7 +21,9 @@ static uint64_t made_call(int function)
     case TEXT_FROM_SHEET: return checkraven_text_from_sheet(sheet, 5, text, 32);
     case ACCOUNT_TEXT: return checkraven_account_text(own + 1, 2, book + 3, 1, fugitive + 7, 8, sheet + 9, 5, exact, 3, shown, 2);
     case ROW: return checkraven_row(own + 1, 2, book + 3, 1, 1, 2, 3, 4, 5, 6, 7, (uint8_t *)exact, 9);
-    default: return checkraven_row_number(own + 1, 2, book + 3, 1, 9, 8, 7, 6, 5, 4, 3);
+    case ROW_NUMBER: return checkraven_row_number(own + 1, 2, book + 3, 1, 9, 8, 7, 6, 5, 4, 3);
+    case STEP: return checkraven_step(UINT64_MAX - 1, exact, 3, shown, 2);
+    default: return checkraven_steps(UINT64_MAX - 1, exact, 3);
     }
 }
 

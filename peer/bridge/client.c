@@ -143,7 +143,7 @@ static struct part file(const uint8_t *bytes, size_t length)
     return (struct part){ (uint8_t *)bytes, length };
 }
 
-static struct part cells(uint64_t *cells, size_t count)
+static struct part cells(const uint64_t *cells, size_t count)
 {
     return (struct part){ (uint8_t *)cells, count * sizeof *cells };
 }
@@ -215,4 +215,16 @@ uint64_t checkraven_row_number(const uint8_t *own, size_t own_len, const uint8_t
     struct call call = { .function = ROW_NUMBER, .parts = 2, .files = 2,
                          .number = { industry, product, material, process, scale, medium, pollutant } };
     return carry_call(call, parts);
+}
+
+uint64_t checkraven_step(uint64_t unit, const uint64_t *table, size_t table_len, uint64_t *next, size_t next_len)
+{
+    struct part parts[] = { cells(table, table_len), cells(next, next_len) };
+    return carry_call((struct call){ .function = STEP, .parts = 2, .files = 1, .number = { unit } }, parts);
+}
+
+uint64_t checkraven_steps(uint64_t unit, const uint64_t *table, size_t table_len)
+{
+    struct part parts[] = { cells(table, table_len) };
+    return carry_call((struct call){ .function = STEPS, .parts = 1, .files = 1, .number = { unit } }, parts);
 }

@@ -1,5 +1,6 @@
 /*
- * A library that does harm, for the test of the bridge: each function but the last three touches what it must not, in a way of its own.
+ * A library that does harm, for the test of the bridge: each function but the three from checkraven_account_text to checkraven_row, and
+ * checkraven_step, touches what it must not, in a way of its own.
  */
 #include "checkraven.h"
 
@@ -76,4 +77,20 @@ uint64_t checkraven_row(const uint8_t *own, size_t own_len, const uint8_t *book,
 {
     row[row_len - 1]++;
     return checkraven_row_number(own, own_len, book, book_len, industry, product, material, process, scale, medium, pollutant);
+}
+
+/* The unit less the sum of the table; each lent cell rises by the table's cell there. */
+uint64_t checkraven_step(uint64_t unit, const uint64_t *table, size_t table_len, uint64_t *next, size_t next_len)
+{
+    for (size_t i = 0; i < next_len; i++)
+        next[i] += table[i];
+    for (size_t i = 0; i < table_len; i++)
+        unit -= table[i];
+    return unit;
+}
+
+uint64_t checkraven_steps(uint64_t unit, const uint64_t *table, size_t table_len)
+{
+    ((uint64_t *)table)[table_len - 1]++;
+    return unit;
 }

@@ -130,6 +130,10 @@ static uint64_t make_call(void)
     case ROW_NUMBER:
         return checkraven_row_number(bytes(0), length[0], bytes(1), length[1], number[0], number[1], number[2], number[3], number[4],
                                      number[5], number[6]);
+    case STEP:
+        return checkraven_step(number[0], cells(0), count(0), cells(1), count(1));
+    case STEPS:
+        return checkraven_steps(number[0], cells(0), count(0));
     default:
         exit(1);
     }

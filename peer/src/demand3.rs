@@ -1,5 +1,7 @@
 //! Demand 3: whether a shown table is allowed beside an exact one.
 
+use crate::table::COLUMNS;
+
 /// Why a shown table isn't allowed. Rows and columns count from 1.
 #[derive(Clone, Copy, Debug, PartialEq, Eq)]
 pub enum Fault {
@@ -20,17 +22,19 @@ pub enum Fault {
     },
 }
 
-/// G, R, U, D, F.
-const COLUMNS: usize = 5;
-
 /// Checks a shown table in units of `unit` against the exact table.
 pub fn check(exact: &[u64], shown: &[u64], unit: u64) -> Result<(), Fault> {
     if exact.len() != shown.len() || !exact.len().is_multiple_of(COLUMNS) || exact.is_empty() {
         return Err(Fault::NotTheSameShape);
     }
     check_cells(exact, shown, unit)?;
-    check_rows(shown)?;
-    check_columns(shown)
+    check_sums(shown)
+}
+
+/// Whether the rows and the columns of a table add up.
+pub fn check_sums(table: &[u64]) -> Result<(), Fault> {
+    check_rows(table)?;
+    check_columns(table)
 }
 
 fn check_cells(exact: &[u64], shown: &[u64], unit: u64) -> Result<(), Fault> {
@@ -42,8 +46,8 @@ fn check_cells(exact: &[u64], shown: &[u64], unit: u64) -> Result<(), Fault> {
     }
 }
 
-fn check_rows(shown: &[u64]) -> Result<(), Fault> {
-    for (index, row) in shown.chunks_exact(COLUMNS).enumerate() {
+fn check_rows(table: &[u64]) -> Result<(), Fault> {
+    for (index, row) in table.chunks_exact(COLUMNS).enumerate() {
         if row[0] as u128 != row[1..].iter().map(|&cell| cell as u128).sum() {
             return Err(Fault::Row { row: index + 1 });
         }
@@ -51,8 +55,8 @@ fn check_rows(shown: &[u64]) -> Result<(), Fault> {
     Ok(())
 }
 
-fn check_columns(shown: &[u64]) -> Result<(), Fault> {
-    let (rows, last) = shown.split_at(shown.len() - COLUMNS);
+fn check_columns(table: &[u64]) -> Result<(), Fault> {
+    let (rows, last) = table.split_at(table.len() - COLUMNS);
     for (column, &total) in last.iter().enumerate() {
         let cells = rows.iter().skip(column).step_by(COLUMNS);
         let sum: u128 = cells.map(|&cell| cell as u128).sum();

@@ -4,6 +4,9 @@
 pub mod compare;
 pub mod demand3;
 pub mod make;
+pub mod one_step;
 pub mod plain;
 pub mod print;
 pub mod rfc4180;
+pub mod table;
+pub mod which_round;

@@ -1,6 +1,6 @@
 //! The one place where the proved desk is called: all `unsafe` code is here.
 
-use crate::RowKey;
+use crate::{RowKey, Unit};
 
 extern "C" {
     fn checkraven_account(
@@ -106,6 +106,16 @@ extern "C" {
         medium: u64,
         pollutant: u64,
     ) -> u64;
+
+    fn checkraven_step(
+        unit: u64,
+        table: *const u64,
+        table_len: usize,
+        next: *mut u64,
+        next_len: usize,
+    ) -> u64;
+
+    fn checkraven_steps(unit: u64, table: *const u64, table_len: usize) -> u64;
 }
 
 pub(crate) fn account(
@@ -275,4 +285,20 @@ pub(crate) fn row_number(own: &[u8], book: &[u8], key: &RowKey) -> u64 {
             key.pollutant.into(),
         )
     }
+}
+
+pub(crate) fn step(unit: Unit, table: &[u64], next: &mut [u64]) -> u64 {
+    // SAFETY: the header asks that each pointer stands for so many cells, that
+    // none is null, and that both are aligned and don't overlap. A slice's pointer
+    // and length are just that, also when it is empty, and a `&mut` slice overlaps
+    // no shared one. The desk reads the table, writes only within the other and
+    // keeps no pointer.
+    unsafe {
+        checkraven_step(unit.code(), table.as_ptr(), table.len(), next.as_mut_ptr(), next.len())
+    }
+}
+
+pub(crate) fn steps(unit: Unit, table: &[u64]) -> u64 {
+    // SAFETY: as above. The desk reads the table and writes nothing.
+    unsafe { checkraven_steps(unit.code(), table.as_ptr(), table.len()) }
 }

@@ -13,7 +13,8 @@
 //! saved as comma-separated text. [`sheet_from_text`] and [`text_from_sheet`] turn
 //! such a text into a sheet and back. [`report`] gives the text that the program
 //! prints for a sheet. [`row`] shows an inspector the row that answers, in
-//! whichever of the two books has it.
+//! whichever of the two books has it. [`settling`] shows how an exact table becomes
+//! the shown one, step by step.
 
 use std::fmt;
 
@@ -22,6 +23,7 @@ mod desk;
 mod refusal;
 mod report;
 mod row;
+mod settling;
 mod tables;
 mod text;
 
@@ -29,6 +31,7 @@ pub use bundle::{account_bundle, declare_bundle, Works, MOST_SHEETS};
 pub use refusal::{Refusal, Refused};
 pub use report::{report, report_into, MOST_TEXT};
 pub use row::{row, row_into, RowKey, MOST_ROW, MOST_ROWS};
+pub use settling::{settling, step, steps, Settling};
 pub use tables::{Line, Row, Tables, Total, Unit};
 pub use text::{account_text, declare_text, sheet_from_text, sheet_from_text_into};
 pub use text::{text_from_sheet, text_from_sheet_into, MOST_SHEET, MOST_SHEET_TEXT};
@@ -104,7 +107,8 @@ impl fmt::Display for Outcome {
     }
 }
 
-/// How many bytes were written, which answers below 65536 say, or the refusal.
+/// A count, as of bytes that were written, which answers below 65536 say, or the
+/// refusal.
 fn written(answer: u64) -> Result<usize, Refused> {
     match answer {
         0..=65535 => Ok(answer as usize),

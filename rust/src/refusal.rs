@@ -3,7 +3,7 @@
 use std::error::Error;
 use std::fmt;
 
-/// Why a sheet, a text or a bundle is refused. Shown in the words of the rules.
+/// Why a sheet, a text, a bundle or a table is refused. Shown in the words of the rules.
 #[derive(Clone, Copy, Debug, PartialEq, Eq, Hash)]
 #[non_exhaustive]
 pub enum Refusal {
@@ -23,6 +23,7 @@ pub enum Refusal {
     NoFugitiveEntry,
     BadGrade,
     BundleMalformed,
+    TableOff,
     /// A number that this crate has no name for: the library is newer than it.
     Unnamed(u32),
 }
@@ -32,8 +33,9 @@ impl Refusal {
     /// this order, but that `FugitiveMalformed` comes after `BookMalformed`,
     /// `BadGrade` after `ReuseTooLarge` and `NoFugitiveEntry` after `NoRow`; of a
     /// text sheet `TextMalformed` is looked for in the place of `SheetMalformed`,
-    /// and of a whole bundle `BundleMalformed` comes before `ResultTooShort`.
-    pub const NAMED: [Refusal; 16] = [
+    /// and of a whole bundle `BundleMalformed` comes before `ResultTooShort`. Of a
+    /// table that is to be settled `TableOff` comes before `ResultTooShort`.
+    pub const NAMED: [Refusal; 17] = [
         Refusal::BookMalformed,
         Refusal::SheetMalformed,
         Refusal::ResultTooShort,
@@ -50,6 +52,7 @@ impl Refusal {
         Refusal::NoFugitiveEntry,
         Refusal::BadGrade,
         Refusal::BundleMalformed,
+        Refusal::TableOff,
     ];
 
     pub fn from_number(number: u32) -> Self {
@@ -88,6 +91,9 @@ impl Refusal {
             Refusal::NoFugitiveEntry => (14, "grade given and no entry in the fugitive table"),
             Refusal::BadGrade => (15, "grade above 3, or given outside particulates in gas"),
             Refusal::BundleMalformed => (16, "bundle malformed or over a limit"),
+            Refusal::TableOff => {
+                (22, "table of a step malformed or a sum off, or shown unit not 1 to 3")
+            }
             Refusal::Unnamed(number) => (number, "a refusal that has no name here"),
         }
     }
@@ -122,13 +128,13 @@ mod tests {
     #[test]
     fn names_and_numbers_lead_to_each_other() {
         let numbers = Refusal::NAMED.map(Refusal::number);
-        assert!(numbers.into_iter().eq(1..=16));
+        assert!(numbers.into_iter().eq((1..=16).chain([22])));
         assert_eq!(numbers.map(Refusal::from_number), Refusal::NAMED);
     }
 
     #[test]
     fn a_number_without_a_name_is_kept() {
-        for number in [0, 17, 18, 23, u32::MAX] {
+        for number in [0, 17, 18, 21, 23, u32::MAX] {
             assert_eq!(Refusal::from_number(number), Refusal::Unnamed(number));
             assert_eq!(Refusal::from_number(number).number(), number);
         }

@@ -55,6 +55,15 @@ impl Unit {
         }
     }
 
+    /// Its number in a sheet.
+    pub(crate) const fn code(self) -> u64 {
+        match self {
+            Unit::Gram => 1,
+            Unit::Kilogram => 2,
+            Unit::Tonne => 3,
+        }
+    }
+
     fn from_code(code: u8) -> Self {
         match code {
             1 => Unit::Gram,
@@ -107,6 +116,17 @@ impl Tables {
     /// The unit of the shown table.
     pub fn unit(&self) -> Unit {
         self.unit
+    }
+
+    /// The exact table as cells, row after row, as [`account`](crate::account)
+    /// leaves them and [`settling`](crate::settling) takes them.
+    pub fn exact_cells(&self) -> &[u64] {
+        &self.exact
+    }
+
+    /// The shown table as cells, row after row.
+    pub fn shown_cells(&self) -> &[u64] {
+        &self.shown
     }
 }
 

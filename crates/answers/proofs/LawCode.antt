@@ -1,5 +1,5 @@
--- What the answer's one number tells: it is 0 for accepted alone, and its two parts are the number and the line; of a step and of a count it
--- tells the case.
+-- What the answer's one number tells: it is 0 for accepted alone, and its two parts are the number and the line; of a step it tells the
+-- case.
 use Prim.Native.Nat.{ℕ, _*_, _/_, _%_, _≤_, _<_}
 use mathlib.Core.Path.{_≡_, refl, sym, ap, _∙_}
 use mathlib.Core.Bool.{cond}
@@ -12,11 +12,10 @@ use Rattle.answers.specs.declared.answer.LineFault.{LineFault}
 use Rattle.answers.specs.declared.answer.LineFault.the-variants as line
 use Rattle.answers.specs.declared.answer.Outcome.{Outcome}
 use Rattle.answers.specs.declared.answer.Outcome.the-variants.{Accepted, RefusedFile, RefusedLine}
-use Rattle.answers.specs.Step.{tableRule, stepCode, countCode}
+use Rattle.answers.specs.Step.{tableRule, stepCode}
 use Rattle.answers.specs.declared.step.StepOutcome.{StepOutcome}
 use Rattle.answers.specs.declared.step.StepOutcome.the-variants.{Changed, Whole, TableOff}
 use Rattle.answers.specs.declared.step.StepOutcome.the-variants as step
-use Rattle.answers.specs.declared.step.CountOutcome.the-variants as count
 
 -- a rule's number is at least 1
 pub file-some : (k : FileFault) → 1 ≤ fileRule k
@@ -65,7 +64,3 @@ step-back step.ResultTooShort = refl
 
 pub step-code-tells : (r q : StepOutcome) → stepCode r ≡ stepCode q → r ≡ q
 step-code-tells r q e = sym (step-back r) ∙ ap stepFrom e ∙ step-back q
-
--- no count of a table looks like a refusal
-pub count-code-tells : (n : ℕ) → n < numberUnit → countCode (count.Changes n) < countCode count.TableOff
-count-code-tells n small = omega (arith, small)

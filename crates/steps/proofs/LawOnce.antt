@@ -1,12 +1,11 @@
 -- Two outcomes that a promise allows are equal: the answer is one of the definition, and every lent cell is said. Two steps from one table that
 -- keep the sentences are one step, and two counts of it one number.
 use mathlib.Core.Path.{_≡_, sym, ap, _∙_}
-use mathlib.Core.Logic.{_≢_}
-use mathlib.Core.List.{List, _++_}
-use Prim.Native.Nat.{ℕ, suc, _≤_, _<_}
+use mathlib.Core.List.{List}
+use Prim.Native.Nat.{ℕ, _<_}
 use native.Mathlib.Decide.{ℕ-discrete, decLt}
 use native.Mathlib.Omega.{arith}
-use lib.ListN.{length, take, drop, replicate, take-append-drop}
+use lib.ListN.{length, take-append-drop}
 use Rattle.settle.specs.Grid.{Grid}
 use Rattle.settle.proofs.LawLine.{by-dec}
 use Rattle.answers.specs.Step.{stepNumber}

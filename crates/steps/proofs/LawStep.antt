@@ -1,13 +1,13 @@
 -- Each sentence about a step is a law of `settle` about a good table; here they stand together. The count is found by following the steps: while
 -- the table is not whole a step changes it, and from then on none does.
-use mathlib.Core.Path.{_≡_, refl, sym, ap, _∙_}
+use mathlib.Core.Path.{_≡_, refl, ap}
 use mathlib.Core.Logic.{_≢_}
 use mathlib.Core.List.{List}
 use Prim.Native.Nat.{ℕ, zero, suc, _≤_, _<_}
 use native.Mathlib.Decide.{ℕ-discrete}
 use native.Mathlib.Omega.{arith}
 use lib.ListN.{length}
-use Rattle.settle.specs.Grid.{Grid, area}
+use Rattle.settle.specs.Grid.{Grid}
 use Rattle.settle.specs.Table.{Good}
 use Rattle.settle.specs.Step.{loose, step, after, changes}
 use Rattle.settle.proofs.LawLine.{pick-yes, pick-no, by-dec}

@@ -1,8 +1,8 @@
 -- The test for a lent table is the test for a unit's code and that of `settle`, and both say what the request says.
-use mathlib.Core.Path.{_≡_, refl, sym, ap, subst, _∙_}
-use mathlib.Core.Bool.{true, _&&_}
+use mathlib.Core.Path.{_≡_, ap, _∙_}
+use mathlib.Core.Bool.{true}
 use mathlib.Core.List.{List}
-use Prim.Native.Nat.{ℕ, _*_, _/_, _≤_}
+use Prim.Native.Nat.{ℕ, _/_}
 use native.Mathlib.Nat.{mul-div-cancel}
 use native.Mathlib.Omega.{arith}
 use borrow.Author.Tests.{leb-true, le-leb}
@@ -11,7 +11,7 @@ use lib.ListN.{length}
 use Rattle.search.proofs.LawTest.{and-left, and-right}
 use Rattle.headers.specs.Unit.{isUnit, unitOf}
 use Rattle.settle.specs.Grid.{grid}
-use Rattle.settle.specs.Table.{Good, isGood}
+use Rattle.settle.specs.Table.{Good}
 use Rattle.settle.proofs.LawTable.{good-of, good-is}
 use Rattle.desk.specs.Cells.{width, discharged}
 use Rattle.desk.proofs.LawDeclare.{unit-whole}

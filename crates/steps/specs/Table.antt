@@ -1,5 +1,5 @@
--- "a lent table not of 1 to 129 rows of five, with a cell above 16 × 10^18, a sum that is off, or a shown unit not 1 to 3": which tables can
--- be settled, as a test and as a statement.
+-- "a lent table not of 1 to 129 rows of five, with a cell above 16 × 10^18, a sum that is off, or a shown unit not 1 to 3": which tables
+-- can be settled, as a test and as a statement.
 use Prim.Native.Nat.{ℕ, _*_, _/_, _≤_, _<_}
 use mathlib.Core.Path.{_≡_}
 use mathlib.Core.Bool.{Bool, _&&_}

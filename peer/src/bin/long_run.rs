@@ -1,9 +1,10 @@
 //! Compares both desks on cases of any sort for a while, one in ten of them a
-//! bundle, one a row that is asked for, and three in ten a text:
+//! bundle, one a row that is asked for, one a table to be settled, and three in ten a
+//! text:
 //! `long_run [SECONDS] [SEED]`, by default one minute with seed 1.
 
 use peer::compare::{keep, AnyCase};
-use peer::make::{any_bundle, any_case, any_conversion, any_row_case};
+use peer::make::{any_bundle, any_case, any_conversion, any_row_case, any_step_case};
 use peer::make::{any_text_case, any_there_and_back, Random};
 use std::process::ExitCode;
 use std::time::{Duration, Instant};
@@ -37,6 +38,7 @@ fn run(length: Duration, seed: u64) -> (u64, u64) {
             2 => agrees(&any_conversion(&mut random)),
             3 => agrees(&any_there_and_back(&mut random)),
             4 => agrees(&any_row_case(&mut random)),
+            5 => agrees(&any_step_case(&mut random)),
             _ => agrees(&any_case(&mut random)),
         };
         disagreements += u64::from(!agreed);

@@ -3,11 +3,14 @@
 //! lent matter. Without own.bin the works has no factors of its own; a fugitive.bin
 //! that isn't there counts as empty. A sheet.csv without a book is only read, a
 //! sheet.bin only written. With asked.txt, the seven numbers of a row, that row is
-//! asked for.
+//! asked for. With table.txt, the code of a unit and the cells of a table, the table
+//! takes a settling step.
 
 use peer::compare::{run_plain, run_proved, AnyCase, BundleCase, Case, Filled};
-use peer::compare::{Conversion, Converted, Inspected, RowCase, TextCase, ThereAndBack};
+use peer::compare::{Conversion, Converted, Inspected, RowCase, StepCase, Stepped};
+use peer::compare::{TextCase, ThereAndBack};
 use peer::print::{whole_bundle_output, whole_output};
+use peer::table::COLUMNS;
 use std::path::Path;
 use std::process::ExitCode;
 
@@ -18,7 +21,9 @@ fn main() -> ExitCode {
     };
     let path = Path::new(&folder);
     let has = |name: &str| path.join(name).exists();
-    let replayed = if !has("book.bin") {
+    let replayed = if has("table.txt") {
+        StepCase::read(path).map(|case| replay_step(&case))
+    } else if !has("book.bin") {
         Conversion::from_folder(path).map(|conversion| replay_conversion(&conversion))
     } else if has("asked.txt") {
         RowCase::read(path).map(|case| replay_row(&case))
@@ -88,6 +93,24 @@ fn replay_row(case: &RowCase) -> bool {
     let text = |Inspected { number, copied }: Inspected| match copied.answer {
         Ok(_) => format!("row {number}: {:02x?}\n", copied.bytes()),
         Err(refused) => format!("row {number}: {refused}\n"),
+    };
+    print("plain Rust", Ok(text(case.run_plain())));
+    print("proved desk", case.run_proved().map(text));
+    agreed
+}
+
+fn replay_step(case: &StepCase) -> bool {
+    let (cells, room) = (case.table.len(), case.room);
+    println!("a table of {cells} cells in unit {}, {room} cells lent", case.unit);
+    let agreed = agree(case);
+    let text = |Stepped { answer, lent, steps }: Stepped| {
+        let rows: String = lent.chunks(COLUMNS).map(|row| format!("{row:?}\n")).collect();
+        match (answer, steps) {
+            (Ok(_), Ok(steps)) => {
+                format!("{steps} steps from the table on, and after one of them\n{rows}")
+            }
+            (Err(refused), _) | (_, Err(refused)) => format!("{refused}\n{rows}"),
+        }
     };
     print("plain Rust", Ok(text(case.run_plain())));
     print("proved desk", case.run_proved().map(text));

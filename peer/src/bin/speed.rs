@@ -1,15 +1,15 @@
 //! The benchmark: the proved desk beside plain Rust in one run, on the same
 //! inputs, by turns. Prints a table in markdown: sheets, one of fugitive dust and one
 //! with factors of the works' own among them, a full sheet read from text and written
-//! as text, a bundle. For a bundle it prints besides what the same sheets take in
-//! calls of their own.
+//! as text, a full table being settled, a bundle. For a bundle it prints besides what
+//! the same sheets take in calls of their own.
 //!
 //! Usage: `speed [ROUNDS [WORD]]`, by default 200 rounds a case, and only the
 //! cases that have the word in their names.
 
 use checkraven::{cells_for, NO_OWN};
 use peer::compare::{earlier_bytes, earlier_cells, run_plain, AnyCase};
-use peer::compare::{BundleCase, Case, Conversion, Way};
+use peer::compare::{face, BundleCase, Case, Conversion, StepCase, Way};
 use peer::make::{Book, Bundle, Entry, Fugitive, Line, Random, Row, Sheet, Technique};
 use peer::plain;
 use std::hint::black_box;
@@ -38,6 +38,12 @@ fn main() {
         assert!(outcome.is_accepted(), "{name} is {outcome}");
         let calls = [call_proved_conversion, call_plain_conversion];
         let [proved, plain] = measure(&conversion, calls, rounds);
+        print_row(name, &proved, &plain);
+    }
+    for (name, case, calls) in settlings().into_iter().filter(|(name, ..)| name.contains(&wanted)) {
+        let outcome = case.compare().expect("both desks agree on the table");
+        assert!(outcome.is_accepted(), "{name} is {outcome}");
+        let [proved, plain] = measure(&case, calls, rounds);
         print_row(name, &proved, &plain);
     }
     if BUNDLE.contains(&wanted) {
@@ -200,6 +206,32 @@ fn conversions() -> [(&'static str, Conversion); 2] {
     ]
 }
 
+/// The table of 128 loose lines: all steps counted, and the last one taken, which has
+/// the most rows to look at before its round.
+fn settlings() -> [(&'static str, StepCase, [Call<StepCase>; 2]); 2] {
+    let loose = loose_case();
+    let unit = u64::from(loose.sheet[12]);
+    let exact = run_plain(&loose).exact[..cells_for(128)].to_vec();
+    let counting = StepCase::with_room(unit, exact);
+    let mut last = counting.clone();
+    while face::steps(unit, &last.table) > 1 {
+        let table = last.table.clone();
+        face::step(unit, &table, &mut last.table);
+    }
+    [
+        (
+            "settling: the last step of a table of 128 loose lines",
+            last,
+            [call_proved_step, call_plain_step],
+        ),
+        (
+            "settling: the steps of a table of 128 loose lines, counted",
+            counting,
+            [call_proved_steps, call_plain_steps],
+        ),
+    ]
+}
+
 /// A bundle, and its sheets to be called for one by one.
 struct Works {
     case: BundleCase,
@@ -304,6 +336,12 @@ impl Timed for Conversion {
     }
 }
 
+impl Timed for StepCase {
+    fn results(&self) -> Results {
+        Results::as_before([0, self.room, 0], 0)
+    }
+}
+
 type Call<C> = fn(&C, &mut Results);
 
 fn call_proved(case: &Case, results: &mut Results) {
@@ -369,6 +407,23 @@ fn call_plain_conversion(conversion: &Conversion, results: &mut Results) {
             .is_ok_and(|written| str::from_utf8(&bytes[..written]).is_ok()),
     };
     black_box(is_taken);
+}
+
+fn call_proved_step(case: &StepCase, results: &mut Results) {
+    black_box(face::step(black_box(case.unit), black_box(&case.table), &mut results.shown));
+}
+
+fn call_plain_step(case: &StepCase, results: &mut Results) {
+    let answer = plain::step(black_box(case.unit), black_box(&case.table), &mut results.shown);
+    black_box(answer == Ok(true));
+}
+
+fn call_proved_steps(case: &StepCase, _: &mut Results) {
+    black_box(face::steps(black_box(case.unit), black_box(&case.table)));
+}
+
+fn call_plain_steps(case: &StepCase, _: &mut Results) {
+    black_box(plain::steps(black_box(case.unit), black_box(&case.table)).is_ok());
 }
 
 /// All calls by turns, and by turns which of them comes first.

@@ -1,5 +1,6 @@
-//! The two functions of the C face that find a row, with any numbers: the Rust
-//! crate takes only those that a field can hold. All `unsafe` code is here.
+//! The functions of the C face that find a row or settle a table, with any numbers:
+//! the Rust crate takes only those that a field can hold, and the three units. All
+//! `unsafe` code is here.
 
 use crate::plain::Asked;
 
@@ -33,6 +34,16 @@ extern "C" {
         medium: u64,
         pollutant: u64,
     ) -> u64;
+
+    fn checkraven_step(
+        unit: u64,
+        table: *const u64,
+        table_len: usize,
+        next: *mut u64,
+        next_len: usize,
+    ) -> u64;
+
+    fn checkraven_steps(unit: u64, table: *const u64, table_len: usize) -> u64;
 }
 
 /// The proved desk's number: how many bytes it has copied, or a refusal.
@@ -80,4 +91,19 @@ pub fn row_number(own: &[u8], book: &[u8], asked: Asked) -> u64 {
             pollutant,
         )
     }
+}
+
+/// The proved desk's number: 1 where the step has changed something, 0 where the
+/// table is whole, or a refusal.
+pub fn step(unit: u64, table: &[u64], next: &mut [u64]) -> u64 {
+    // SAFETY: the header asks that each pointer stands for so many cells, that none
+    // is null, and that both are aligned and don't overlap, which two slices are of
+    // which one is `&mut`. The desk reads the table, writes only within the other and
+    // keeps no pointer.
+    unsafe { checkraven_step(unit, table.as_ptr(), table.len(), next.as_mut_ptr(), next.len()) }
+}
+
+pub fn steps(unit: u64, table: &[u64]) -> u64 {
+    // SAFETY: as above, with nothing lent for writing.
+    unsafe { checkraven_steps(unit, table.as_ptr(), table.len()) }
 }

@@ -18,11 +18,6 @@ impl Lent<u8> {
     pub fn bytes(earlier: impl Iterator<Item = u8>) -> Self {
         Lent::new(earlier, 0x5C)
     }
-
-    /// Neither the file nor what stands around it has changed.
-    pub fn is_still(&self, bytes: &[u8]) -> bool {
-        self.middle() == bytes && self.margins_hold()
-    }
 }
 
 impl Lent<u64> {
@@ -48,6 +43,11 @@ impl<T: Copy + PartialEq> Lent<T> {
     pub fn middle_mut(&mut self) -> &mut [T] {
         let end = self.area.len() - self.margin;
         &mut self.area[self.margin..end]
+    }
+
+    /// Neither what was lent nor what stands around it has changed.
+    pub fn is_still(&self, lent: &[T]) -> bool {
+        self.middle() == lent && self.margins_hold()
     }
 
     pub fn margins_hold(&self) -> bool {

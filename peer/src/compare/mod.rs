@@ -5,9 +5,11 @@ mod bundle;
 pub mod face;
 mod lent;
 mod row;
+mod settling;
 mod tally;
 mod text;
 
+use crate::table::UNITS;
 use crate::{demand3, plain};
 use checkraven::{cells_for, Outcome, MOST_LINES, NO_FUGITIVE, NO_OWN};
 use lent::{earlier_cell, Lent};
@@ -19,10 +21,11 @@ use std::path::{Path, PathBuf};
 pub use bundle::{BundleCase, FilledBundle};
 pub use lent::{at_address, earlier_bytes, earlier_cells};
 pub use row::{Inspected, RowCase};
+pub use settling::{StepCase, Stepped};
 pub use tally::{limited, thinned, Tally};
 pub use text::{Conversion, Converted, TextCase, ThereAndBack, Way};
 
-/// A case of any sort: one sheet, a bundle, a text sheet, a row.
+/// A case of any sort: one sheet, a bundle, a text sheet, a row, a table.
 pub trait AnyCase: Hash {
     /// Compares both desks; the agreed outcome, or what differs.
     fn compare(&self) -> Result<Outcome, String>;
@@ -75,7 +78,7 @@ impl Case {
 
     /// W of an accepted sheet.
     pub fn shown_unit(&self) -> u64 {
-        [0, 100_000, 100_000_000, 100_000_000_000][self.sheet[12] as usize]
+        UNITS[self.sheet[12] as usize - 1]
     }
 
     /// Reads a folder again; without lengths the results have room.

@@ -1,5 +1,5 @@
-//! Books, fugitive tables, sheets, bundles and texts made for tests: builders for
-//! single cases, seeded generators for many, and damages.
+//! Books, fugitive tables, sheets, bundles, texts and tables to be settled, made for
+//! tests: builders for single cases, seeded generators for many, and damages.
 
 mod bundle;
 pub mod damage;
@@ -12,6 +12,7 @@ pub mod kiln;
 pub mod own;
 mod parts;
 mod random;
+pub mod tables;
 pub mod text;
 pub mod two_kinds;
 pub mod works;
@@ -21,7 +22,7 @@ pub use fugitive::{Entry, Fugitive};
 pub use parts::{Book, Line, Row, Sheet, Technique};
 pub use random::Random;
 
-use crate::compare::{BundleCase, Case, Conversion, RowCase, TextCase, ThereAndBack};
+use crate::compare::{BundleCase, Case, Conversion, RowCase, StepCase, TextCase, ThereAndBack};
 
 /// Each of the first with each of the second.
 pub fn every_two<A: Clone, B: Clone>(first: &[A], second: &[B]) -> Vec<(A, B)> {
@@ -105,6 +106,12 @@ pub fn any_there_and_back(random: &mut Random) -> ThereAndBack {
 pub fn any_row_case(random: &mut Random) -> RowCase {
     let size = any_size(random);
     inspect::row_case(random, size)
+}
+
+/// A table to be settled.
+pub fn any_step_case(random: &mut Random) -> StepCase {
+    let most_lines = any_size(random).lines;
+    tables::step_case(random, most_lines)
 }
 
 fn any_size(random: &mut Random) -> generate::Size {

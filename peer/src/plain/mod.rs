@@ -8,6 +8,7 @@ mod bundle;
 mod bytes;
 mod fugitive;
 pub mod reading;
+mod settling;
 mod sheet;
 mod shown;
 mod text;
@@ -20,6 +21,7 @@ use sheet::{Line, Sheet};
 pub use amounts::Amounts;
 pub use books::{row, row_into, row_number, Asked};
 pub use bundle::account_bundle;
+pub use settling::{step, steps};
 pub use text::{account_text, sheet_from_text, text_from_sheet};
 
 /// A refusal: its number and the line, counted from 1; 0 for whole files.
@@ -56,6 +58,7 @@ pub const FUGITIVE_MALFORMED: u32 = 13;
 pub const NO_FUGITIVE_ENTRY: u32 = 14;
 pub const BAD_GRADE: u32 = 15;
 pub const BUNDLE_MALFORMED: u32 = 16;
+pub const TABLE_OFF: u32 = 22;
 
 /// All house files have this limit.
 const MOST_BYTES: usize = 65_536;

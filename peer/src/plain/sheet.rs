@@ -88,7 +88,7 @@ impl<'a> Sheet<'a> {
     }
 }
 
-fn shown_unit(code: u32) -> Option<u64> {
+pub fn shown_unit(code: u32) -> Option<u64> {
     match code {
         1 => Some(GRAM),
         2 => Some(KILOGRAM),

@@ -1,13 +1,16 @@
-//! The shown table. Turn the signs of the columns R, U, D and F, then those of the
-//! last row: now every row and every column of the exact table sums to 0, so
-//! none can hold exactly one loose (not whole) cell. Loose cells therefore form
-//! closed rounds. Shifting a round by turns up and down
+//! The shown table, and the single steps that make it. Turn the signs of the columns
+//! R, U, D and F, then those of the last row: now every row and every column of the
+//! exact table sums to 0, so none can hold exactly one loose (not whole) cell. Loose
+//! cells therefore form closed rounds. Shifting a round by turns up and down
 //! keeps all sums, and the largest shift that carries no cell past a whole
 //! unit makes at least one cell whole.
 //!
 //! Rows are taken one after another. Among the rows still open there is never
 //! a round, so with five columns at most four of them stay open, and a new one
 //! finds a free place among five.
+//!
+//! Which round is shifted depends on the open rows and not on their places. So one
+//! step after the other, each from the first row on, makes the same table.
 
 use super::{COLUMNS, GRAM, KILOGRAM, TONNE};
 
@@ -31,28 +34,33 @@ struct Open<const UNIT: u64> {
     loose: Cells,
     parts: [u64; BITS],
     row_at: [usize; STEP],
+    /// The place of the row that was taken last.
+    newest: usize,
     last_row: usize,
 }
 
-/// A walk over cells by turns along a row and a column; each row and column is
-/// met at most once more.
-struct Walk {
-    cells: [u8; 2 * COLUMNS + 2],
+/// The cells of a round: neighbours share a row or a column by turns, and so do the
+/// last cell and the first.
+struct Round {
+    cells: [u8; 2 * PLACES],
     length: usize,
 }
 
-impl Walk {
-    /// Says how many cells came before.
-    fn push(&mut self, cell: usize) -> usize {
-        let before = self.length;
-        self.cells[before] = cell as u8;
-        self.length = before + 1;
-        before
+impl Round {
+    fn push(&mut self, cell: usize) {
+        self.cells[self.length] = cell as u8;
+        self.length += 1;
+    }
+
+    /// Each with its turn.
+    fn cells(&self) -> impl Iterator<Item = (usize, usize)> + '_ {
+        self.cells[..self.length].iter().map(|&cell| cell as usize).enumerate()
     }
 }
 
-/// Each unit has a copy of its own, which divides by a number that is known.
-pub fn fill(exact: &[u64], unit: u64, shown: &mut [u64]) {
+/// Fills the shown table and says how many rounds were shifted. Each unit has a copy
+/// of its own, which divides by a number that is known.
+pub fn fill(exact: &[u64], unit: u64, shown: &mut [u64]) -> usize {
     match unit {
         GRAM => fill_in::<GRAM>(exact, shown),
         KILOGRAM => fill_in::<KILOGRAM>(exact, shown),
@@ -60,30 +68,61 @@ pub fn fill(exact: &[u64], unit: u64, shown: &mut [u64]) {
     }
 }
 
-fn fill_in<const UNIT: u64>(exact: &[u64], shown: &mut [u64]) {
+fn fill_in<const UNIT: u64>(exact: &[u64], shown: &mut [u64]) -> usize {
     let rows = exact.as_chunks::<COLUMNS>().0;
     let shown = shown.as_chunks_mut::<COLUMNS>().0;
-    let mut open = Open::<UNIT> {
-        loose: 0,
-        parts: [0; BITS],
-        row_at: [0; STEP],
-        last_row: rows.len().saturating_sub(1),
-    };
+    let mut open = Open::<UNIT>::of_a_table(rows.len());
+    let mut shifted = 0;
     for (row, cells) in rows.iter().enumerate() {
         shown[row] = cells.map(|cell| cell / UNIT);
         let parts = cells.map(|cell| cell % UNIT);
         if parts != [0; COLUMNS] {
             open.take(row, parts);
-            open.settle(shown);
+            shifted += open.settle(shown);
         }
+    }
+    shifted
+}
+
+/// Shifts the first round of a table that `next` holds too, and says whether there
+/// is one.
+pub fn step(table: &[u64], unit: u64, next: &mut [u64]) -> bool {
+    match unit {
+        GRAM => step_in::<GRAM>(table, next),
+        KILOGRAM => step_in::<KILOGRAM>(table, next),
+        _ => step_in::<TONNE>(table, next),
     }
 }
 
+fn step_in<const UNIT: u64>(table: &[u64], next: &mut [u64]) -> bool {
+    let rows = table.as_chunks::<COLUMNS>().0;
+    let mut open = Open::<UNIT>::of_a_table(rows.len());
+    for (row, cells) in rows.iter().enumerate() {
+        let parts = cells.map(|cell| cell % UNIT);
+        if parts == [0; COLUMNS] {
+            continue;
+        }
+        open.take(row, parts);
+        let cells = without_dead_ends(open.loose);
+        if cells != 0 {
+            open.shift_in(next.as_chunks_mut::<COLUMNS>().0, &open.find_round(cells));
+            return true;
+        }
+    }
+    false
+}
+
 impl<const UNIT: u64> Open<UNIT> {
+    fn of_a_table(rows: usize) -> Self {
+        let last_row = rows.saturating_sub(1);
+        Open { loose: 0, parts: [0; BITS], row_at: [0; STEP], newest: 0, last_row }
+    }
+
     fn take(&mut self, row: usize, parts: [u64; COLUMNS]) {
         let is_free = |place: &usize| self.loose & FIRST_ROW << (STEP * place) == 0;
         let place = (0..PLACES).find(is_free).expect("at most four rows stay open");
         self.row_at[place] = row;
+        self.newest = place;
         for (column, part) in parts.into_iter().enumerate() {
             let cell = STEP * place + column;
             self.parts[cell] = part;
@@ -92,31 +131,88 @@ impl<const UNIT: u64> Open<UNIT> {
     }
 
     /// Shifts rounds until none is left, and writes rows that have become whole.
-    fn settle(&mut self, shown: &mut [[u64; COLUMNS]]) {
+    /// Says how many were shifted.
+    fn settle(&mut self, shown: &mut [[u64; COLUMNS]]) -> usize {
+        let mut shifted = 0;
         loop {
             let cells = without_dead_ends(self.loose);
             if cells == 0 {
-                return;
+                return shifted;
             }
-            let (walk, begin) = find_round(cells);
-            self.shift(&walk.cells[begin..walk.length], shown);
+            self.shift(&self.find_round(cells), shown);
+            shifted += 1;
         }
     }
 
-    fn shift(&mut self, round: &[u8], shown: &mut [[u64; COLUMNS]]) {
-        let mut by = UNIT;
-        for (turn, &cell) in round.iter().enumerate() {
-            let part = self.parts[cell as usize % BITS];
-            by = by.min(if self.goes_up(turn, cell) { UNIT - part } else { part });
-        }
-        for (turn, &cell) in round.iter().enumerate() {
-            let up = self.goes_up(turn, cell);
-            let part = &mut self.parts[cell as usize % BITS];
-            *part = if up { *part + by } else { *part - by };
-            if *part == 0 || *part == UNIT {
-                self.loose &= !(1 << cell);
-                self.write_if_whole(cell as usize / STEP, shown);
+    /// A round among cells that have no dead ends. Every round has two cells in the
+    /// newest row, since there was none before it. So a walk from there meets no row
+    /// and no column twice until it can go back.
+    fn find_round(&self, cells: Cells) -> Round {
+        let mut round = Round { cells: [0; 2 * PLACES], length: 0 };
+        let newest = FIRST_ROW << (STEP * self.newest);
+        let back = FIRST_COLUMN * (cells >> (STEP * self.newest) & FIRST_ROW);
+        let mut cell = first(cells & newest);
+        round.push(cell);
+        loop {
+            cell = self.topmost(cells & !newest & FIRST_COLUMN << (cell % STEP) & !(1 << cell));
+            round.push(cell);
+            let in_row = cells & FIRST_ROW << (cell / STEP * STEP) & !(1 << cell);
+            if in_row & back != 0 {
+                cell = first(in_row & back);
+                round.push(cell);
+                round.push(STEP * self.newest + cell % STEP);
+                return round;
             }
+            cell = first(in_row);
+            round.push(cell);
+        }
+    }
+
+    /// Of several cells in one column that of the row that was taken first.
+    fn topmost(&self, mut cells: Cells) -> usize {
+        let mut top = first(cells);
+        cells &= cells - 1;
+        while cells != 0 {
+            let other = first(cells);
+            if self.row_at[other / STEP % STEP] < self.row_at[top / STEP % STEP] {
+                top = other;
+            }
+            cells &= cells - 1;
+        }
+        top
+    }
+
+    /// The largest shift that carries no cell past a whole unit.
+    fn room(&self, round: &Round) -> u64 {
+        let room = |(turn, cell): (usize, usize)| {
+            let part = self.parts[cell % BITS];
+            if self.goes_up(turn, cell) {
+                UNIT - part
+            } else {
+                part
+            }
+        };
+        round.cells().map(room).fold(UNIT, u64::min)
+    }
+
+    fn shift(&mut self, round: &Round, shown: &mut [[u64; COLUMNS]]) {
+        let by = self.room(round);
+        for (turn, cell) in round.cells() {
+            let part = moved(self.parts[cell % BITS], self.goes_up(turn, cell), by);
+            self.parts[cell % BITS] = part;
+            if part == 0 || part == UNIT {
+                self.loose &= !(1 << cell);
+                self.write_if_whole(cell / STEP, shown);
+            }
+        }
+    }
+
+    /// The same in a table as it is.
+    fn shift_in(&self, table: &mut [[u64; COLUMNS]], round: &Round) {
+        let by = self.room(round);
+        for (turn, cell) in round.cells() {
+            let in_table = &mut table[self.row_at[cell / STEP % STEP]][cell % STEP];
+            *in_table = moved(*in_table, self.goes_up(turn, cell), by);
         }
     }
 
@@ -130,36 +226,18 @@ impl<const UNIT: u64> Open<UNIT> {
     }
 
     /// Up and down alternate in the table with the turned signs.
-    fn goes_up(&self, turn: usize, cell: u8) -> bool {
-        let (place, column) = (cell as usize / STEP % STEP, cell as usize % STEP);
+    fn goes_up(&self, turn: usize, cell: usize) -> bool {
+        let (place, column) = (cell / STEP % STEP, cell % STEP);
         let is_last = self.row_at[place] == self.last_row;
         turn.is_multiple_of(2) ^ is_last ^ (column == GENERATED)
     }
 }
 
-/// A round among cells that have no dead ends, so that the walk goes on until
-/// it meets a row or column again: neighbours share a row or a column by turns,
-/// and so do the last cell and the first. The answer is the walk and where the
-/// round begins in it.
-fn find_round(cells: Cells) -> (Walk, usize) {
-    const NEVER: usize = usize::MAX;
-    let mut walk = Walk { cells: [0; 2 * COLUMNS + 2], length: 0 };
-    let mut left_row = [NEVER; STEP];
-    let mut left_column = [NEVER; STEP];
-    let mut cell = first(cells);
-    loop {
-        let column = cell % STEP;
-        left_row[cell / STEP % STEP] = walk.push(cell);
-        if left_column[column] != NEVER {
-            return (walk, left_column[column]);
-        }
-        cell = first(cells & FIRST_COLUMN << column & !(1 << cell));
-        left_column[column] = walk.push(cell);
-        let row = cell / STEP % STEP;
-        if left_row[row] != NEVER {
-            return (walk, left_row[row]);
-        }
-        cell = first(cells & FIRST_ROW << (STEP * row) & !(1 << cell));
+fn moved(cell: u64, up: bool, by: u64) -> u64 {
+    if up {
+        cell + by
+    } else {
+        cell - by
     }
 }
 

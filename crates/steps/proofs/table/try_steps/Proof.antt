@@ -6,7 +6,9 @@ use Rattle.steps.proofs.table.try_steps.Statement.{statement}
 use Rattle.steps.proofs.table.try_steps.Tie as tie
 
 returns : tie.Need-returns
-returns c = tried-unit (sym (c .before .before .before .before .before .before .is-unit .ensures) ∙ c .before .before .before .before .before .if1 .taken) (c .before .before .before .before .unit-from .ensures) (c .before .before .step .ensures)
+returns c =
+    let w = c .before .before .before .before in
+    tried-unit (sym (w .before .before .is-unit .ensures) ∙ w .before .if1 .taken) (w .unit-from .ensures) (c .before .before .step .ensures)
 
 returns-2 : tie.Need-returns-2
 returns-2 c = tried-none (sym (c .before .is-unit .ensures) ∙ c .if1 .left)

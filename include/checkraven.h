@@ -21,11 +21,15 @@ extern "C" {
 /* The answer for an accepted sheet, and for a bundle that is taken. */
 #define CHECKRAVEN_ACCEPTED UINT64_C(0)
 
+/* The answers for a settling step: something changed, or the table is whole. */
+#define CHECKRAVEN_CHANGED UINT64_C(1)
+#define CHECKRAVEN_WHOLE   UINT64_C(0)
+
 /*
  * The refusal numbers. For a sheet they are looked for in the order 1, 13, 2, 3,
  * then lines from 1 up, each in the order 4, 5, 15, 6, 14, 7 to 11; for a text
  * sheet 12 is looked for in the place of 2. For a whole bundle 16 is looked for
- * first, then 3, and no other.
+ * first, then 3, and no other; for a settling step 22, then 3, and no other.
  */
 #define CHECKRAVEN_BOOK_MALFORMED      1  /* either book malformed or over a limit */
 #define CHECKRAVEN_SHEET_MALFORMED     2  /* sheet malformed, over a limit, or shown unit not 1 to 3 */
@@ -43,6 +47,7 @@ extern "C" {
 #define CHECKRAVEN_NO_FUGITIVE_ENTRY  14  /* grade given and no entry in the fugitive table */
 #define CHECKRAVEN_BAD_GRADE          15  /* grade above 3, or given outside particulates in gas */
 #define CHECKRAVEN_BUNDLE_MALFORMED   16  /* bundle malformed or over a limit */
+#define CHECKRAVEN_TABLE_OFF          22  /* table of a step malformed or a sum off, or shown unit not 1 to 3 */
 
 /* Number and line of a refusal. The line counts from 1; 0 means a whole file. */
 #define CHECKRAVEN_NUMBER(answer) ((unsigned)((answer) / UINT64_C(65536)))
@@ -330,6 +335,54 @@ uint64_t checkraven_row_number(const uint8_t *own, size_t own_len,
                                uint64_t industry, uint64_t product, uint64_t material,
                                uint64_t process, uint64_t scale,
                                uint64_t medium, uint64_t pollutant);
+
+/*
+ * Takes one settling step of a table, for a screen that draws the table being
+ * settled: from the exact table on, every table up to the shown one.
+ *
+ * Lent for reading: the table (table_len cells). It never changes.
+ * Lent for writing: next (next_len cells). It doesn't overlap the table.
+ * No pointer is null, also where its length is 0, and both are aligned as
+ * uint64_t.
+ *
+ * unit is the code of the shown unit, as a sheet has it: 1 gram, 2 kilogram, 3
+ * tonne; W is that unit as a number of 10 micrograms, 10^5, 10^8 or 10^11. A cell
+ * is whole where W divides it. A table has 1 to 129 rows of five cells, row after
+ * row: G, R, U, D, F, each at most 16 * 10^18. In every row G = R + U + D + F, and
+ * in every column the last row is the sum of the rows above, so that the cells of
+ * a table of one row are all 0. Sums are compared as numbers, and never modulo
+ * 2^64. So the exact table that checkraven_account leaves is one, at its 5 *
+ * (lines + 1) cells.
+ *
+ * The answer is CHECKRAVEN_CHANGED or CHECKRAVEN_WHOLE. Next then begins with the
+ * table after the step, and further cells keep their values.
+ *   CHECKRAVEN_CHANGED: at least one cell more is whole, no whole cell changed,
+ *                       no cell passed a whole number of W, and all sums are
+ *                       right. One closed round of cells moved, each up or down
+ *                       by the same amount: none or two in each row, none or two
+ *                       in each column. Which round, and which cells go up, is
+ *                       said in docs/SETTLING.md.
+ *   CHECKRAVEN_WHOLE:   every cell is whole, and the table stays as it is.
+ * Step after step from the exact table on, the table becomes whole; divided by W
+ * it is then the shown table of checkraven_account.
+ *
+ * Otherwise the answer is number * 65536, and all cells of next are zero:
+ *   CHECKRAVEN_TABLE_OFF:        the table or the unit isn't as above.
+ *   CHECKRAVEN_RESULT_TOO_SHORT: next has fewer cells than the table.
+ * They are looked for in this order.
+ */
+uint64_t checkraven_step(uint64_t unit, const uint64_t *table, size_t table_len,
+                         uint64_t *next, size_t next_len);
+
+/*
+ * Says how often checkraven_step changes something, from this table on.
+ *
+ * All is as with checkraven_step, but that nothing is lent for writing.
+ *
+ * The answer is that number, 0 for a whole table and never more than table_len,
+ * which for the exact table is 5 * (lines + 1); or CHECKRAVEN_TABLE_OFF * 65536.
+ */
+uint64_t checkraven_steps(uint64_t unit, const uint64_t *table, size_t table_len);
 
 #ifdef __cplusplus
 }

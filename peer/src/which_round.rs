@@ -1,4 +1,4 @@
-//! Which round a settling step takes, and which way: by the words of docs/DESIGN.md,
+//! Which round a settling step takes, and which way: by the words of docs/SETTLING.md,
 //! which neither desk follows in this way.
 
 use crate::table::{column_of, row_of, COLUMNS};

@@ -8,6 +8,7 @@ use peer::make::tables::{self, table_of, MOST_CELL};
 use peer::make::{every_two, Book, Line, Random, Row, Sheet, Technique};
 use peer::table::{COLUMNS, UNITS};
 use peer::{one_step, plain};
+use std::cmp::Ordering;
 
 /// How many tables a test with so many cases follows, of about so many steps each.
 fn tables_in(cases: usize, steps: usize) -> usize {
@@ -217,16 +218,50 @@ fn whole_tables_stay() {
     }
 }
 
-/// The example of docs/DESIGN.md, where a unit is 10.
+/// The cells of a row of the picture, with the signs behind them.
+fn drawn_row(line: &str) -> Option<Vec<&str>> {
+    let labels = ["    line 1", "    line 2", "    total"];
+    let row = labels.iter().find_map(|label| line.strip_prefix(label))?;
+    Some(row.split_whitespace().collect())
+}
+
+/// In units of ten.
+fn drawn_cell(cell: &str) -> u64 {
+    let tens: u64 = cell.trim_end_matches(['+', '-']).parse().expect("a cell of the picture");
+    10_000 * tens
+}
+
+/// A cell after a step, as the picture has it.
+fn drawn(before: u64, after: u64) -> String {
+    let sign = match after.cmp(&before) {
+        Ordering::Less => "-",
+        Ordering::Equal => "",
+        Ordering::Greater => "+",
+    };
+    format!("{}{sign}", after / 10_000)
+}
+
+/// The picture of docs/SETTLING.md, as the page draws it: each table is a step from
+/// the one before, with a sign behind each cell that moved, and the last one stays.
 #[test]
 fn the_described_steps() {
     let mut tally = Tally::new("the_described_steps");
-    let tenths = |cells: [u64; 15]| cells.map(|cell| cell * 10_000).to_vec();
-    let table = tenths([25, 13, 7, 5, 0, 21, 4, 8, 9, 0, 46, 17, 15, 14, 0]);
-    let case = StepCase::with_room(1, table.clone());
-    let stepped = case.run_proved().expect("the memory around is kept");
-    let first = tenths([22, 10, 7, 5, 0, 24, 7, 8, 9, 0, 46, 17, 15, 14, 0]);
-    assert_eq!((stepped.changed(&case), stepped.steps), (Some(first), Ok(5)));
-    let end = in_units(&follow(&mut tally, 1, &table), UNITS[0]);
-    assert_eq!(end, [2, 1, 0, 1, 0, 2, 0, 1, 1, 0, 4, 1, 1, 2, 0]);
+    let page = concat!(env!("CARGO_MANIFEST_DIR"), "/../docs/SETTLING.md");
+    let page = std::fs::read_to_string(page).expect("the page on settling");
+    let rows: Vec<Vec<&str>> = page.lines().filter_map(drawn_row).collect();
+    let pictures: Vec<Vec<&str>> = rows.chunks(3).map(<[Vec<&str>]>::concat).collect();
+    assert_eq!(pictures.len(), 8, "the table to start with, and seven steps");
+    let start: Vec<u64> = pictures[0].iter().map(|&cell| drawn_cell(cell)).collect();
+    let mut case = StepCase::with_room(1, start.clone());
+    for (step, picture) in pictures[1..].iter().enumerate() {
+        let stepped = case.run_proved().expect("the memory around is kept");
+        assert_eq!(stepped.steps, Ok(7 - step));
+        let after = stepped.changed(&case).expect("a step that is drawn changes something");
+        let cells = case.table.iter().zip(&after);
+        assert_eq!(*picture, Vec::from_iter(cells.map(|(&from, &to)| drawn(from, to))));
+        case.table = after;
+    }
+    assert_eq!(follow(&mut tally, 1, &start), case.table);
+    let end = in_units(&case.table, UNITS[0]);
+    assert_eq!(end, [3, 1, 1, 1, 0, 3, 0, 0, 1, 2, 6, 1, 1, 2, 2]);
 }

@@ -12,13 +12,13 @@ ghost use Rattle.desk.specs.Lent.{sources, lent};
 ghost use Rattle.report.specs.Report.{mostText, reportOf};
 ghost use Rattle.report.specs.Bundle.{mostBundleText, bundleReportOf};
 ghost use Rattle.report.specs.Typed.{textReportOf};
+use check::same;
 use headers::book::NO_ROWS;
 use headers::house::MOST_BYTES;
 use libc::ENOENT;
 use libc::STDERR_FILENO;
 use libc::STDOUT_FILENO;
 use little::part::part;
-use little::read::u32_at;
 use numerals::bytes::lay;
 use report::MOST_BUNDLE_TEXT;
 use report::MOST_TEXT;
@@ -30,8 +30,8 @@ use settled::settled_bundle;
 use settled::settled_sheet;
 use settled::settled_text;
 
-// The longest word that is asked for, and one byte more, so that a longer one is not taken for it.
-const MOST_WORD: usize = 9;
+// The longest word that is asked for. Of a longer one no letter is counted.
+const MOST_WORD: usize = 8;
 
 // What is printed of the folder.
 enum Asked {
@@ -39,17 +39,10 @@ enum Asked {
     Settling,
 }
 
-// The word has eight letters, which are compared four at a time.
-fn is_settle(word: &[u8]) -> bool {
-    (word.len() == 8)
-        & (u32_at(word, 0) == u32_at(b"--se", 0))
-        & (u32_at(word, 4) == u32_at(b"ttle", 0))
-}
-
 fn read_asked() -> Asked {
     let mut word = [0u8; MOST_WORD];
     let letters = os::arg(1, &mut word);
-    if is_settle(part(&word, 0, letters)) {
+    if same(part(&word, 0, letters), b"--settle") {
         Asked::Settling
     } else {
         Asked::Figures

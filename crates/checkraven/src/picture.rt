@@ -105,7 +105,7 @@ fn sign(text: &mut [u8], at: usize, before: u64, after: u64) -> usize {
 }
 
 // Between two figures there is room for a sign, which may stand there already, and two spaces; between a label and a figure there is one,
-// so that nine lines with totals of 15 digits have 100 columns, also where a step adds a digit.
+// so that nine lines with totals of 14 digits have at most 100 columns, also where a step adds a digit.
 fn gap(text: &mut [u8], at: usize, from: &[u64], to: &[u64], j: usize) -> usize {
     if j == 0 {
         return put(text, at, b" ");

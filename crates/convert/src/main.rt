@@ -18,8 +18,8 @@ use text::read::sheet_from_text;
 use text::write::MOST_SHEET_TEXT;
 use text::write::text_from_sheet;
 
-// The longest word that is asked for, and one byte more, so that a longer one is not taken for it.
-const MOST_WORD: usize = 11;
+// The longest word that is asked for. Of a longer one no letter is counted.
+const MOST_WORD: usize = 10;
 
 fn load(name: &[u8], room: &mut [u8]) -> usize {
     let file = os::open_read(name);

@@ -195,15 +195,15 @@ move-else K p m x (u ∷ us) t v a b =
     ∙ pair-else K p m x u t v (λ e. a (inl e)) (λ e. b (inl e))
 
 -- lists of cells, one after the other
-among-left : (v : ℕ) (us ws : List ℕ) → Among v us → Among v (us ++ ws)
+pub among-left : (v : ℕ) (us ws : List ℕ) → Among v us → Among v (us ++ ws)
 among-left v [] ws h = absurd h
 among-left v (u ∷ us) ws h = ⊎-elim inl (λ g. inr (among-left v us ws g)) h
 
-among-right : (v : ℕ) (us ws : List ℕ) → Among v ws → Among v (us ++ ws)
+pub among-right : (v : ℕ) (us ws : List ℕ) → Among v ws → Among v (us ++ ws)
 among-right v [] ws h = h
 among-right v (u ∷ us) ws h = inr (among-right v us ws h)
 
-among-either : (v : ℕ) (us ws : List ℕ) → Among v (us ++ ws) → Among v us ⊎ Among v ws
+pub among-either : (v : ℕ) (us ws : List ℕ) → Among v (us ++ ws) → Among v us ⊎ Among v ws
 among-either v [] ws h = inr h
 among-either v (u ∷ us) ws h = ⊎-elim (λ e. inl (inl e)) (λ g. ⊎-elim (λ a. inl (inr a)) inr (among-either v us ws g)) h
 

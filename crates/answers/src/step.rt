@@ -1,12 +1,12 @@
 // What is answered to a table that is being settled: to a step of it, and to how many steps change something.
 ghost use mathlib.Core.Path.{_≡_};
-ghost use Rattle.answers.specs.Step.{countCode, stepCode, stepNumber};
+ghost use Rattle.answers.specs.Step.{countCode, stepCode};
+use super::answer::FileFault;
 use super::answer::NUMBER_UNIT;
+use super::answer::Outcome;
 
-// The number of a table that is off, and that of a result that is too short.
-const TABLE_OFF: u16 = 22;
-
-const TOO_SHORT: u16 = 3;
+// The number of a table that is off.
+const TABLE_OFF: u64 = 22;
 
 // What one more step did: something changed, or the table was whole already. A table that is off is looked for before a result that is too
 // short.
@@ -24,18 +24,6 @@ pub enum CountOutcome {
 }
 
 impl StepOutcome {
-    // The refusal's number; 0 where the step was taken.
-    pub fn number(self) -> u16
-        ensures { λ r. ⌜ r ≡ stepNumber self ⌝ }
-    {
-        match self {
-            StepOutcome::Changed => 0,
-            StepOutcome::Whole => 0,
-            StepOutcome::TableOff => TABLE_OFF,
-            StepOutcome::ResultTooShort => TOO_SHORT,
-        }
-    }
-
     // The answer as one number: 1 where something changed, 0 where the table is whole, else the refusal's number times 65,536.
     pub fn code(self) -> u64
         ensures { λ r. ⌜ r ≡ stepCode self ⌝ }
@@ -43,8 +31,8 @@ impl StepOutcome {
         match self {
             StepOutcome::Changed => 1,
             StepOutcome::Whole => 0,
-            StepOutcome::TableOff => (TABLE_OFF as u64) * NUMBER_UNIT,
-            StepOutcome::ResultTooShort => (TOO_SHORT as u64) * NUMBER_UNIT,
+            StepOutcome::TableOff => TABLE_OFF * NUMBER_UNIT,
+            StepOutcome::ResultTooShort => Outcome::RefusedFile(FileFault::ResultTooShort).code(),
         }
     }
 }
@@ -56,7 +44,7 @@ impl CountOutcome {
     {
         match self {
             CountOutcome::Changes(steps) => steps as u64,
-            CountOutcome::TableOff => (TABLE_OFF as u64) * NUMBER_UNIT,
+            CountOutcome::TableOff => TABLE_OFF * NUMBER_UNIT,
         }
     }
 }

@@ -11,7 +11,7 @@ pub const WHOLE_SHARE: u64 = 1000;
 pub const MOST_DIVISOR: u64 = 10_000_000_000_000_000;
 
 // All in units of 10 micrograms.
-#[derive(Drop)]
+#[derive(Clone, Copy)]
 pub struct Amounts {
     pub generated: u64,
     pub removed: u64,
@@ -20,7 +20,7 @@ pub struct Amounts {
 }
 
 // A line's amounts; or Bad, where a number is outside its range.
-#[derive(Drop)]
+#[derive(Clone, Copy)]
 pub enum Worked {
     Line(Amounts),
     Bad,

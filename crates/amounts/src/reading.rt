@@ -45,7 +45,7 @@ pub fn from_bits(n: u64) -> f64
 }
 
 // A whole number of parts; or over the limit that was given; or not finite, or below zero.
-#[derive(Drop)]
+#[derive(Clone, Copy)]
 pub enum Taken {
     Is(u64),
     Over,

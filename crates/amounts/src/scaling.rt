@@ -4,7 +4,7 @@ ghost use Rattle.amounts.specs.Inner.{Digit, Parts, Room};
 ghost use Rattle.amounts.specs.Scaling.{scaled_of};
 
 // The number q · d + r, for a divisor d that both sides know.
-#[derive(Drop)]
+#[derive(Clone, Copy)]
 pub(crate) struct Part {
     pub(crate) q: u64,
     pub(crate) r: u64,
@@ -122,7 +122,7 @@ fn share(x: u64, n: u64, d: u64) -> u64
 }
 
 // A whole number; or Bad, where it was asked for a share of nothing, or for more than the whole.
-#[derive(Drop)]
+#[derive(Clone, Copy)]
 pub enum Portion {
     Is(u64),
     Bad,

@@ -7,7 +7,7 @@ pub const NUMBER_UNIT: u64 = 65536;
 
 // What is wrong with a whole file or a whole result, in the order in which it is looked for. Rule 1 is for either book, the works' own and
 // the published one. A sheet is a binary one or a text.
-#[derive(Drop)]
+#[derive(Clone, Copy)]
 pub enum FileFault {
     OwnBookMalformed,
     BookMalformed,
@@ -18,7 +18,7 @@ pub enum FileFault {
 }
 
 // What is wrong with a line, in the order in which it is looked for.
-#[derive(Drop)]
+#[derive(Clone, Copy)]
 pub enum LineFault {
     ActivityTooLarge,
     ReuseTooLarge,
@@ -33,7 +33,7 @@ pub enum LineFault {
 }
 
 // Refused with what is wrong; a line counts from 1.
-#[derive(Drop)]
+#[derive(Clone, Copy)]
 pub enum Outcome {
     Accepted,
     RefusedFile(FileFault),

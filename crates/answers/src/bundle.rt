@@ -5,7 +5,7 @@ ghost use Rattle.answers.specs.Bundle.{bundle_code, bundle_number};
 use super::answer::NUMBER_UNIT;
 
 // Malformed is looked for before too short.
-#[derive(Drop)]
+#[derive(Clone, Copy)]
 pub enum BundleOutcome {
     Taken,
     BundleMalformed,

@@ -1,4 +1,6 @@
 // What the desk answers, and the number that each refusal has in the paper.
+#![tactic(auto)]
+
 pub mod answer;
 pub mod bundle;
 pub mod step;

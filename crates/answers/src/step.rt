@@ -9,7 +9,7 @@ const TABLE_OFF: u64 = 22;
 
 // What one more step did: something changed, or the table was whole already. A table that is off is looked for before a result that is too
 // short.
-#[derive(Drop)]
+#[derive(Clone, Copy)]
 pub enum StepOutcome {
     Changed,
     Whole,
@@ -18,7 +18,7 @@ pub enum StepOutcome {
 }
 
 // How many steps change something.
-#[derive(Drop)]
+#[derive(Clone, Copy)]
 pub enum CountOutcome {
     Changes(usize),
     TableOff,

@@ -1,4 +1,6 @@
 // The desk as a program: of the folder it is started in it prints the report. `folder` says which files are read, and what is said of them.
+#![tactic(auto)]
+
 ghost use Rattle.std.specs.Prelude.{◌≡◌, ◌≤◌, length, take};
 ghost use Rattle.desk.specs.Lent.{sources, lent};
 ghost use Rattle.report.specs.Report.{most_text, report_of};

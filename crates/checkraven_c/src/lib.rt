@@ -1,4 +1,6 @@
 // The desk for C. A slice is a pointer and then a length.
+#![tactic(auto)]
+
 ghost use Rattle.std.specs.Prelude.{◌≡◌};
 ghost use Rattle.desk.specs.Lent.{sources, lent};
 ghost use Rattle.checkraven_c.specs.Code.{Accounts};

@@ -1,5 +1,7 @@
 // A sheet converted, in the folder that the program is started in: `--to-csv` prints the text of `sheet.bin`; `--from-csv` makes
 // `sheet.bin` from `sheet.csv`, where there is no such file yet, and prints what it did. A file that is not there counts as empty.
+#![tactic(auto)]
+
 use answers::answer::Outcome;
 use check::same;
 use headers::house::MOST_BYTES;

@@ -25,14 +25,14 @@ use search::found::Found;
 use shares::share::{Reading, Share, share_by};
 
 // The efficiency with k as n over d, or what is wrong.
-#[derive(Drop)]
+#[derive(Clone, Copy)]
 pub enum Treatment {
     By(usize, u64, u64),
     NoTreatment(LineFault),
 }
 
 // The line's row of the table, or what is wrong.
-#[derive(Drop)]
+#[derive(Clone, Copy)]
 pub enum LineOutcome {
     Given(TableRow),
     Refusal(LineFault),

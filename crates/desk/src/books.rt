@@ -15,7 +15,7 @@ use little::read::{BYTE_RANGE, U16_RANGE};
 use search::found::Found;
 
 // Where the row of a key is: in which book, and which row of it, counted from 0.
-#[derive(Drop)]
+#[derive(Clone, Copy)]
 pub enum RowPlace {
     InOwn(usize),
     InPublished(usize),

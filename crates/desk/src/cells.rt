@@ -12,7 +12,7 @@ pub const COLUMNS: usize = 5;
 pub const DISCHARGED: usize = 3;
 
 // In units of 10 micrograms.
-#[derive(Drop)]
+#[derive(Clone, Copy)]
 pub struct TableRow {
     pub generated: u64,
     pub removed: u64,

@@ -20,7 +20,7 @@ use search::order::Order;
 pub const UNITS_PER_FACTOR: u64 = 100;
 
 // What escapes, in units; or rule 14: there is no entry for the line.
-#[derive(Drop)]
+#[derive(Clone, Copy)]
 pub enum Dust {
     Escapes(u64),
     NoEntry,

@@ -10,7 +10,7 @@ use search::order::{Order, order_of};
 // Scale 0 stands for all scales.
 pub const ALL_SCALES: usize = 0;
 
-#[derive(Drop)]
+#[derive(Clone, Copy)]
 pub struct Key {
     pub industry: usize,
     pub product: usize,

@@ -1,5 +1,7 @@
 // The desk: it reads two coefficient books, a fugitive table and a sheet, or a bundle of sheets, and accounts for the lines. It relies on
 // the crates below it only through their promises and public laws.
+#![tactic(auto)]
+
 mod account;
 pub mod book;
 pub mod books;

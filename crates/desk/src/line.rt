@@ -20,7 +20,7 @@ pub const WHOLE_SHARE: usize = amounts::line::WHOLE_SHARE as usize;
 pub const MOST_KILOGRAMS: u64 = 1_000_000_000;
 
 // The key has the sheet's medium and pollutant; product and material are in kilograms.
-#[derive(Drop)]
+#[derive(Clone, Copy)]
 pub struct Line {
     pub key: Key,
     pub technique: usize,
@@ -32,7 +32,7 @@ pub struct Line {
 }
 
 // A line whose bytes are there; or not.
-#[derive(Drop)]
+#[derive(Clone, Copy)]
 pub enum SheetLine {
     There(Line),
     NotThere,

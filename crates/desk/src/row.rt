@@ -15,7 +15,7 @@ use search::found::Found;
 use search::order::Order;
 
 // What a line is accounted for by: units per kilogram, and the list of techniques in the block.
-#[derive(Drop)]
+#[derive(Clone, Copy)]
 pub struct Row {
     pub coefficient: u64,
     pub basis: usize,

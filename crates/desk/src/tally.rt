@@ -5,7 +5,7 @@ ghost use Rattle.desk.specs.Tally.{add, start};
 
 use super::cells::TableRow;
 
-#[derive(Drop)]
+#[derive(Clone, Copy)]
 pub struct Tally {
     pub sums: TableRow,
 }

@@ -1,5 +1,7 @@
 // The paper's figures, worked and printed: those of the amounts first, then runs of the desk over the folders of data/, then
 // tables that are settled step by step.
+#![tactic(auto)]
+
 mod print;
 mod runs;
 mod settled;

@@ -8,7 +8,7 @@ use numerals::bytes::lay;
 use report::{MOST_BUNDLE_TEXT, Written, report, report_bundle, report_text};
 
 // What the desk is given beside the books and the fugitive table.
-#[derive(Drop)]
+#[derive(Clone, Copy)]
 enum Given {
     Sheet,
     Bundle,

@@ -12,7 +12,7 @@ pub const ROOM: usize = MOST_BYTES + 1;
 
 // What came of a name: whether anything stands there, whether that could be read to its end, and how many bytes it has then. What could not
 // be read has none.
-#[derive(Drop)]
+#[derive(Clone, Copy)]
 pub struct Loaded {
     pub there: bool,
     pub whole: bool,
@@ -20,7 +20,7 @@ pub struct Loaded {
 }
 
 // What a read brought: that it failed, or so many bytes, none at the file's end.
-#[derive(Drop)]
+#[derive(Clone, Copy)]
 struct Got {
     failed: bool,
     bytes: usize,

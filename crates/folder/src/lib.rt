@@ -1,4 +1,6 @@
 // The folder that a program is started in: its files, and what is said of them on standard error.
+#![tactic(auto)]
+
 pub mod file;
 pub mod refusals;
 pub mod say;

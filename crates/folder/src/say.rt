@@ -3,7 +3,7 @@
 use libc::STDERR_FILENO;
 
 // How a program ends: with what was asked for, with a refusal, or with neither.
-#[derive(Drop)]
+#[derive(Clone, Copy)]
 pub enum End {
     Answered,
     Refused,

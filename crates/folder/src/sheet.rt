@@ -5,14 +5,14 @@ ghost use Rattle.std.specs.Prelude.{◌≤◌, length};
 use crate::file::{Loaded, load};
 use crate::say::said;
 
-#[derive(Drop)]
+#[derive(Clone, Copy)]
 pub enum Kind {
     Bundle,
     Binary,
     Typed,
 }
 
-#[derive(Drop)]
+#[derive(Clone, Copy)]
 pub struct Sheet {
     pub kind: Kind,
     pub file: Loaded,

@@ -6,7 +6,7 @@ use crate::say::said;
 use headers::book::NO_ROWS;
 use numerals::bytes::lay;
 
-#[derive(Drop)]
+#[derive(Clone, Copy)]
 pub struct Sources {
     pub own: Loaded,
     pub book: Loaded,

@@ -9,7 +9,7 @@ pub const GAS: usize = 2;
 
 pub const PARTICULATES: usize = 3;
 
-#[derive(Drop)]
+#[derive(Clone, Copy)]
 pub struct Grades {
     pub crushing: usize,
     pub tapping: usize,

@@ -14,14 +14,14 @@ use little::read::byte_at;
 const MOST_BEFORE: u64 = 1_844_674_407_370_955_160;
 
 // The number of some digits, and the place behind them.
-#[derive(Drop)]
+#[derive(Clone, Copy)]
 pub(crate) struct Digits {
     pub(crate) value: u64,
     pub(crate) end: usize,
 }
 
 // A number, and the place behind it; or none of the form that is asked for stands there.
-#[derive(Drop)]
+#[derive(Clone, Copy)]
 pub enum Ahead {
     Number(u64, usize),
     Nothing,

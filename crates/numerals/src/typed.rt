@@ -19,7 +19,7 @@ pub const MOST_WHOLE: u64 = 99_999_999_999;
 pub const MOST_PLACES: u64 = 999;
 
 // A number; or what was typed is no numeral of the form that is asked for.
-#[derive(Drop)]
+#[derive(Clone, Copy)]
 pub enum Typed {
     Is(u64),
     Malformed,

@@ -19,7 +19,7 @@ pub const MOST_ROW: usize = MOST_LABEL + COLUMNS * (2 + MOST_FIGURE + 1) + 1;
 const MOST_MOVED: usize = COLUMNS * 3;
 
 // What all tables of a sheet share: the shown unit, how many lines there are, and how wide labels and figures are.
-#[derive(Drop)]
+#[derive(Clone, Copy)]
 pub struct Layout {
     unit: u64,
     lines: usize,

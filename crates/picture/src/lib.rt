@@ -1,3 +1,5 @@
 // A table that is being settled, drawn as text.
+#![tactic(auto)]
+
 pub mod draw;
 pub mod put;

@@ -15,7 +15,7 @@ const CARRIAGE_RETURN: usize = 13;
 const LINE_FEED: usize = 10;
 
 // Where the next field of the same record begins; or, behind a record's last field, where the next record does.
-#[derive(Drop)]
+#[derive(Clone, Copy)]
 pub enum Behind {
     Field(usize),
     Record(usize),

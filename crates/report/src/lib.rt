@@ -1,5 +1,7 @@
 // The report of a sheet, binary or typed, and of a bundle, as a text: the figures, or the refusal, byte for byte; and the bytes of a book's
 // row for the inspector's screen. It relies on the desk only through its promises.
+#![tactic(auto)]
+
 mod put;
 mod rows;
 mod sheets;
@@ -33,7 +35,7 @@ pub const MOST_TEXT: usize = 2 * (MOST_ROW * (MOST_LINES + 1)) + MOST_UNIT;
 pub const MOST_BUNDLE_TEXT: usize = MOST_SHEETS * (5 + MOST_NUMBER + 1 + MOST_TEXT);
 
 // The bytes that are written; or no room for them.
-#[derive(Drop)]
+#[derive(Clone, Copy)]
 pub enum Written {
     Bytes(usize),
     Short,

@@ -1,6 +1,8 @@
 // Rounds a table of sums to whole units by closed rounds: every cell to one of the whole numbers around it, every sum right.
 // A table is lent as its cells, row after row: column 0 has the rows' sums, the last row the columns' sums.
 // (In the private functions w is the unit, k the number of columns, n that of rows, t the table's cells.)
+#![tactic(auto)]
+
 ghost use Rattle.settle.specs.Answer.{AnswersShow, AnswersStep};
 ghost use Rattle.settle.specs.Grid.{grid};
 ghost use Rattle.settle.specs.Inner.{Lent, Steps};
@@ -30,7 +32,7 @@ pub const MOST_COLUMNS: usize = 5;
 
 pub const MOST_ROWS: usize = 129;
 
-#[derive(Drop)]
+#[derive(Clone, Copy)]
 pub enum Settled {
     // how many steps changed something
     Done(usize),

@@ -1,5 +1,7 @@
 // How the figures of the folder that the program is started in are settled to whole units, printed step by step. Which files are read, and
 // what is said of them, is as for the figures.
+#![tactic(auto)]
+
 mod settled;
 
 use folder::file::ROOM;

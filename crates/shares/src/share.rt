@@ -12,14 +12,14 @@ pub const MOST_KILOWATTS: u32 = 10000;
 
 pub const MOST_KILOWATT_HOURS: u32 = 10_000_000;
 
-#[derive(Drop)]
+#[derive(Clone, Copy)]
 pub struct EnergyReading {
     pub kwh: f64,
     pub kw: f64,
     pub hours: f64,
 }
 
-#[derive(Drop)]
+#[derive(Clone, Copy)]
 pub enum Reading {
     None,
     Hours { run: f64, production: f64 },
@@ -28,7 +28,7 @@ pub enum Reading {
 }
 
 // k as n over d, or what is wrong.
-#[derive(Drop)]
+#[derive(Clone, Copy)]
 pub enum Share {
     Part(u64, u64),
     NoShare(LineFault),

@@ -7,7 +7,7 @@ use answers::answer::{FileFault, Outcome};
 use numerals::bytes::clear;
 
 // The bytes that are written; or why there are none.
-#[derive(Drop)]
+#[derive(Clone, Copy)]
 pub enum Converted {
     Bytes(usize),
     Refused(Outcome),

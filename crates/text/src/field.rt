@@ -31,7 +31,7 @@ pub(crate) const HEADER_FIELDS: usize = 3;
 pub(crate) const A_READING: u64 = 0;
 
 // A field's number, and where what follows it begins: more of its record, or, behind its last field, the next one; or no number.
-#[derive(Drop)]
+#[derive(Clone, Copy)]
 pub(crate) enum FieldRead {
     More(u64, usize),
     Last(u64, usize),
@@ -39,7 +39,7 @@ pub(crate) enum FieldRead {
 }
 
 // Where the next record begins; or the record is malformed.
-#[derive(Drop)]
+#[derive(Clone, Copy)]
 pub(crate) enum RecordRead {
     Next(usize),
     Broken,

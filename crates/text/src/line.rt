@@ -8,7 +8,7 @@ use amounts::reading::{Taken, parts_of};
 use shares::share::{EnergyReading, MOST_HOURS, MOST_KILOWATT_HOURS, MOST_KILOWATTS, Reading};
 
 // How many of a, b, c are used, and their thousandths, 0 for those that are not; or a used one is bad or over its limit.
-#[derive(Drop)]
+#[derive(Clone, Copy)]
 pub(crate) enum Readings {
     Used(usize, u64, u64, u64),
     BadOne,

@@ -29,7 +29,7 @@ const A_KIND: u64 = 3;
 const A_GRADE: u64 = 255;
 
 // How many lines were laid; or the text is malformed.
-#[derive(Drop)]
+#[derive(Clone, Copy)]
 enum LinesRead {
     Lines(usize),
     Broken,

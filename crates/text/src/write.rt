@@ -27,14 +27,14 @@ pub const MOST_SHEET_TEXT: usize = MOST_FIELD * HEADER_FIELDS
     + MOST_FIELD * LINE_FIELDS * MOST_LINES;
 
 // Where a line's record ends in the text; or a used reading is bad or over its limit.
-#[derive(Drop)]
+#[derive(Clone, Copy)]
 enum LineText {
     Ends(usize),
     BadReading,
 }
 
 // Where the last line's record ends; or the line, counted from 1, that has such a reading.
-#[derive(Drop)]
+#[derive(Clone, Copy)]
 enum LinesText {
     Ends(usize),
     BadReading(u16),

@@ -1,22 +1,17 @@
 -- k is a fraction of at most 1 whose divisor is small.
 use Prim.Native.Nat.{ℕ, ◌*◌, ◌≤◌, ◌<◌}
 use mathlib.Core.Path.{◌≡◌, refl, sym, ◌∙◌}
-use mathlib.Core.List.{[], ◌∷◌}
-use mathlib.Core.Logic.{⊎_elim}
 use native.Mathlib.Nat.{mul-le-mul, pos_of_ne-zero}
 use native.Mathlib.Omega.{arith}
 use lib.Dec.{leb, eqb}
 use lib.Ieee.{Float}
 use borrow.Author.Tests.{eqb-true, eqb-false, leb-true, leb-false, eq-eqb, ne_eqb, le-leb, lt-leb}
-use denote.Enum.Declared.{tag_of}
-use types.Run.{OneOf}
 use Rattle.search.proofs.LawTest.{clash, either_way}
 use Rattle.amounts.specs.declared.reading.Taken.{Taken}
 use Rattle.amounts.specs.declared.reading.Taken.TheVariants.{Is, Over, Bad}
 use Rattle.amounts.specs.Line.{most_divisor}
 use Rattle.amounts.specs.Reading.{parts_per_unit}
 use Rattle.amounts.proofs.LawReading.{taken_most}
-use Rattle.amounts.specs.contracts.reading.Taken.{the_type}
 use Rattle.answers.specs.declared.answer.LineFault.TheVariants.{WrongKind, BadReading, ZeroDivisor, KAboveOne}
 use Rattle.shares.specs.Share.{most_hours, most_kilowatts, hours_of, kw_of, kwh_of, ratio, exactly_one, if_taken}
 use Rattle.shares.specs.Share.{goes_with, hours_share, energy_share, share_of, share_by}
@@ -33,13 +28,13 @@ pub taken : (x y : Taken) (t : ℕ) (f : ℕ → Share) (k : Share) → x ≡ y 
 unfolding if_taken
 taken x y t f k e is made = rw (← e, is) made
 
--- in its second case or its third: over its limit, or bad
-pub not_taken : (x y : Taken) (f : ℕ → Share) → x ≡ y → OneOf (1 ∷ 2 ∷ []) (tag_of the_type x) → NoShare BadReading ≡ if_taken y f
+-- not in its first case: over its limit, or bad
+pub not_taken : (x y : Taken) (f : ℕ → Share) → x ≡ y → ((n : ℕ) → x ≡ Is n → ⊥) → NoShare BadReading ≡ if_taken y f
 unfolding if_taken
 not_taken x y f e h = rw (← e) (refused x h)
   where
-    refused : (x : Taken) → OneOf (1 ∷ 2 ∷ []) (tag_of the_type x) → NoShare BadReading ≡ if_taken x f
-    refused (Is t) h = absurd (⊎_elim (λ (e : ◌≡◌ {A = ℕ} 0 1). omega arith) (λ (e : ◌≡◌ {A = ℕ} 0 2). omega arith) h)
+    refused : (x : Taken) → ((n : ℕ) → x ≡ Is n → ⊥) → NoShare BadReading ≡ if_taken x f
+    refused (Is t) h = absurd (h t refl)
     refused Over h = refl
     refused Bad h = refl
 

@@ -1,0 +1,26 @@
+use Prim.Native.Nat.{◌-◌}
+use mathlib.Core.Path.{sym, ◌∙◌}
+use native.Mathlib.Omega.{arith}
+use Rattle.records.proofs.LawField.{field_start, end_here, goes_on, past_end}
+use Rattle.records.proofs.field.field_end.Goals as goal
+
+pub loop-i-init : goal.loop-i-init
+loop-i-init c = field_start c.args.text.now c.args.at
+
+pub returns-then-ends_field : goal.returns-then-ends_field
+returns-then-ends_field c =
+    let inside = c.loop-i-test.true in
+    let here = end_here c.args.text.now c.loop-i.i c.loop-i.quoted inside (sym c.ends_field.ensures ∙ c.if-ends_field.true) in
+    omega (arith, c.loop-i.invariant, here)
+
+pub loop-i-preserved : goal.loop-i-preserved
+loop-i-preserved c =
+    let inside = c.loop-i-test.true in
+    let on = goes_on c.args.text.now c.loop-i.i c.loop-i.quoted inside
+    (sym c.ends_field.ensures ∙ c.if-ends_field.false) in
+    rw (c.turned-quoted.ensures, c.byte_at.ensures.eq) (omega (arith, c.loop-i.invariant, on))
+
+pub returns : goal.returns
+returns c =
+    let past = past_end c.args.text.now c.loop-i.i c.loop-i.quoted (omega (arith, c.loop-i-test.false)) in
+    omega (arith, c.loop-i.invariant, past)

@@ -1,0 +1,66 @@
+use Prim.Native.Nat.{ℕ, ◌+◌, ◌-◌, ◌*◌, ◌≤◌, ◌<◌}
+use native.Mathlib.Nat.{mul-le-mul_right, zero-mul}
+use native.Mathlib.Omega.{arith}
+use lib.ListN.{length}
+use Rattle.settle.specs.Shown.{at}
+use Rattle.settle.specs.Table.{limit}
+use Rattle.settle.proofs.LawCells.{written_none}
+use Rattle.settle.proofs.LawMirror.{written_row, written_rows}
+use Rattle.settle.proofs.cells.mirror_above.Goals as goal
+
+-- the first cell of a turn's row; it is in the table, and not above the limit
+abbrev first : goal.In-loop-r → ℕ
+first c = c.loop-r.r * c.args.k
+
+inside : (c : goal.In-loop-r) → first c < length c.loop-r.t
+inside c =
+    let f = c.requires.frame in
+    let row : c.loop-r.r + 1 ≤ c.args.n = omega (arith, c.loop-r-test.true) in
+    omega (arith, mul-le-mul_right c.args.k row, f.size, f.small.wide, c.loop-r.invariant.1.size)
+
+most : (c : goal.In-loop-r) → at c.loop-r.t (first c) ≤ limit
+most c = rw (c.loop-r.invariant.1.rest (first c) (omega arith)) (c.requires.most (first c))
+
+pub loop-r-preserved : goal.loop-r-preserved
+loop-r-preserved c =
+    let h = c.requires.frame.small in
+    (omega arith, written_row _ _ h.wide _ c.loop-r.invariant.1 (omega (arith, c.loop-r-test.true)) (inside c))
+
+pub returns : goal.returns
+returns c =
+    let h = c.requires.frame.small in
+    let r : c.loop-r.r ≤ c.args.n - 1 = c.loop-r.invariant.0 in
+    written_rows _ _ h.wide _ c.loop-r.invariant.1 h.high (omega (arith, c.loop-r-test.false))
+
+pub loop-r-init : goal.loop-r-init
+loop-r-init c = (omega arith, rw zero-mul written_none)
+
+pub overflow_sub-n : goal.overflow_sub-n
+overflow_sub-n c = omega (arith, c.requires.frame.small.high)
+
+pub overflow_mul-i : goal.overflow_mul-i
+overflow_mul-i c = omega (arith, inside c, c.requires.frame.small.few)
+
+pub offset_bounds-t-i : goal.offset_bounds-t-i
+offset_bounds-t-i c = omega (arith, inside c, c.requires.frame.small.few)
+
+pub bounds-t-i : goal.bounds-t-i
+bounds-t-i c = inside c
+
+pub overflow_sub-t : goal.overflow_sub-t
+overflow_sub-t c = omega (arith, most c)
+
+pub offset_bounds-t-i-in-loop-r : goal.offset_bounds-t-i-in-loop-r
+offset_bounds-t-i-in-loop-r c = omega (arith, inside c, c.requires.frame.small.few)
+
+pub bounds-t-i-in-loop-r : goal.bounds-t-i-in-loop-r
+bounds-t-i-in-loop-r c = inside c
+
+pub overflow_add-r : goal.overflow_add-r
+overflow_add-r c = omega arith
+
+pub loop-r-smaller : goal.loop-r-smaller
+loop-r-smaller c = omega arith
+
+pub shape_of-t : goal.shape_of-t
+shape_of-t c = c.loop-r.invariant.1.size

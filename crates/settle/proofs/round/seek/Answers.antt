@@ -1,0 +1,20 @@
+-- A usual unit is the unit where the two are equal, so what is asked and answered of the one is asked and answered of the other.
+use Rattle.settle.proofs.round.seek.Goals as goal
+
+pub seek_by-requires : goal.seek_by-requires
+seek_by-requires c = rw c.if-w-eq-SMALL_UNIT.true at c.requires
+
+pub returns-then-w-eq-SMALL_UNIT : goal.returns-then-w-eq-SMALL_UNIT
+returns-then-w-eq-SMALL_UNIT c = rw c.if-w-eq-SMALL_UNIT.true c.seek_by.ensures
+
+pub seek_by-requires-then-w-eq-MIDDLE_UNIT : goal.seek_by-requires-then-w-eq-MIDDLE_UNIT
+seek_by-requires-then-w-eq-MIDDLE_UNIT c = rw c.if-w-eq-MIDDLE_UNIT.true at c.requires
+
+pub returns-then-w-eq-MIDDLE_UNIT : goal.returns-then-w-eq-MIDDLE_UNIT
+returns-then-w-eq-MIDDLE_UNIT c = rw c.if-w-eq-MIDDLE_UNIT.true c.seek_by-then-w-eq-MIDDLE_UNIT.ensures
+
+pub seek_by-requires-then-w-eq-LARGE_UNIT : goal.seek_by-requires-then-w-eq-LARGE_UNIT
+seek_by-requires-then-w-eq-LARGE_UNIT c = rw c.if-w-eq-LARGE_UNIT.true at c.requires
+
+pub returns-then-w-eq-LARGE_UNIT : goal.returns-then-w-eq-LARGE_UNIT
+returns-then-w-eq-LARGE_UNIT c = rw c.if-w-eq-LARGE_UNIT.true c.seek_by-then-w-eq-LARGE_UNIT.ensures

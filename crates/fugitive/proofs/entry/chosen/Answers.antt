@@ -1,4 +1,6 @@
 -- By the grade; where it is none of the three, no factor is chosen.
+use mathlib.Core.Logic.{◌≢◌}
+use native.Mathlib.Omega.{arith}
 use borrow.Author.Tests.{ne_eqb}
 use borrow.Author.Rules.{rules}
 use Rattle.fugitive.specs.Entry.{chosen}
@@ -19,5 +21,7 @@ returns-in-3 c = rw c.in-3.is c.u16_at-in-3.ensures
 pub returns-in_default : goal.returns-in_default
 unfolding chosen
 returns-in_default c =
-    let m = c.in_default.rest in
-    record { eq = rw (ne_eqb _ 1 m.0.0.1, ne_eqb _ 2 m.0.1, ne_eqb _ 3 m.1); small = search rules }
+    let first : c.args.grade ≢ 1 = λ e. omega arith in
+    let second : c.args.grade ≢ 2 = λ e. omega arith in
+    let third : c.args.grade ≢ 3 = λ e. omega arith in
+    record { eq = rw (ne_eqb _ 1 first, ne_eqb _ 2 second, ne_eqb _ 3 third); small = search rules }

@@ -9,22 +9,14 @@ use Rattle.settle.proofs.LawMirror.{written_row, written_rows}
 use Rattle.settle.proofs.cells.mirror_above.Goals as goal
 
 -- the first cell of a turn's row; it is in the table, and not above the limit
-abbrev first : goal.In-loop-r → ℕ
-first c = c.loop-r.r * c.args.k
-
-inside : (c : goal.In-loop-r) → first c < length c.loop-r.t
-inside c =
-    let f = c.requires.frame in
-    let row : c.loop-r.r + 1 ≤ c.args.n = omega (arith, c.loop-r-test.true) in
-    omega (arith, mul-le-mul_right c.args.k row, f.size, f.small.wide, c.loop-r.invariant.1.size)
-
-most : (c : goal.In-loop-r) → at c.loop-r.t (first c) ≤ limit
-most c = rw (c.loop-r.invariant.1.rest (first c) (omega arith)) (c.requires.most (first c))
 
 pub loop-r-preserved : goal.loop-r-preserved
 loop-r-preserved c =
+    let inside : (c.loop-r.r * c.args.k) < length c.loop-r.t = let f = c.requires.frame in
+    let row : c.loop-r.r + 1 ≤ c.args.n = omega (arith, c.loop-r-test.true) in
+    omega (arith, mul-le-mul_right c.args.k row, f.size, f.small.wide, c.loop-r.invariant.1.size) in
     let h = c.requires.frame.small in
-    (omega arith, written_row _ _ h.wide _ c.loop-r.invariant.1 (omega (arith, c.loop-r-test.true)) (inside c))
+    (omega arith, written_row _ _ h.wide _ c.loop-r.invariant.1 (omega (arith, c.loop-r-test.true)) inside)
 
 pub returns : goal.returns
 returns c =
@@ -39,22 +31,44 @@ pub overflow_sub-n : goal.overflow_sub-n
 overflow_sub-n c = omega (arith, c.requires.frame.small.high)
 
 pub overflow_mul-i : goal.overflow_mul-i
-overflow_mul-i c = omega (arith, inside c, c.requires.frame.small.few)
+overflow_mul-i c =
+    let inside : (c.loop-r.r * c.args.k) < length c.loop-r.t = let f = c.requires.frame in
+    let row : c.loop-r.r + 1 ≤ c.args.n = omega (arith, c.loop-r-test.true) in
+    omega (arith, mul-le-mul_right c.args.k row, f.size, f.small.wide, c.loop-r.invariant.1.size) in
+    omega (arith, inside, c.requires.frame.small.few)
 
 pub offset_bounds-t-i : goal.offset_bounds-t-i
-offset_bounds-t-i c = omega (arith, inside c, c.requires.frame.small.few)
+offset_bounds-t-i c =
+    let inside : (c.loop-r.r * c.args.k) < length c.loop-r.t = let f = c.requires.frame in
+    let row : c.loop-r.r + 1 ≤ c.args.n = omega (arith, c.loop-r-test.true) in
+    omega (arith, mul-le-mul_right c.args.k row, f.size, f.small.wide, c.loop-r.invariant.1.size) in
+    omega (arith, inside, c.requires.frame.small.few)
 
 pub bounds-t-i : goal.bounds-t-i
-bounds-t-i c = inside c
+bounds-t-i c =
+    let inside : (c.loop-r.r * c.args.k) < length c.loop-r.t = let f = c.requires.frame in
+    let row : c.loop-r.r + 1 ≤ c.args.n = omega (arith, c.loop-r-test.true) in
+    omega (arith, mul-le-mul_right c.args.k row, f.size, f.small.wide, c.loop-r.invariant.1.size) in
+    inside
 
 pub overflow_sub-t : goal.overflow_sub-t
-overflow_sub-t c = omega (arith, most c)
+overflow_sub-t c =
+    let most : at c.loop-r.t (c.loop-r.r * c.args.k) ≤ limit = rw (c.loop-r.invariant.1.rest (c.loop-r.r * c.args.k) (omega arith)) (c.requires.most (c.loop-r.r * c.args.k)) in
+    omega (arith, most)
 
 pub offset_bounds-t-i-in-loop-r : goal.offset_bounds-t-i-in-loop-r
-offset_bounds-t-i-in-loop-r c = omega (arith, inside c, c.requires.frame.small.few)
+offset_bounds-t-i-in-loop-r c =
+    let inside : (c.loop-r.r * c.args.k) < length c.loop-r.t = let f = c.requires.frame in
+    let row : c.loop-r.r + 1 ≤ c.args.n = omega (arith, c.loop-r-test.true) in
+    omega (arith, mul-le-mul_right c.args.k row, f.size, f.small.wide, c.loop-r.invariant.1.size) in
+    omega (arith, inside, c.requires.frame.small.few)
 
 pub bounds-t-i-in-loop-r : goal.bounds-t-i-in-loop-r
-bounds-t-i-in-loop-r c = inside c
+bounds-t-i-in-loop-r c =
+    let inside : (c.loop-r.r * c.args.k) < length c.loop-r.t = let f = c.requires.frame in
+    let row : c.loop-r.r + 1 ≤ c.args.n = omega (arith, c.loop-r-test.true) in
+    omega (arith, mul-le-mul_right c.args.k row, f.size, f.small.wide, c.loop-r.invariant.1.size) in
+    inside
 
 pub overflow_add-r : goal.overflow_add-r
 overflow_add-r c = omega arith

@@ -7,36 +7,27 @@ use Rattle.settle.specs.Inner.{Hop, Trail}
 use Rattle.settle.proofs.LawLoop.{drop_next, least_on, least_out, least_most, least_step}
 use Rattle.settle.proofs.moving.least_by.Goals as goal
 
-abbrev start : goal.In-loop-i → goal.Start
-start c = c
-
-abbrev cell : goal.In-loop-i → ℕ
-cell c = get_or (start c).args.us.now c.loop-i.i 0
-
--- what the invariant says of a turn's cell, and of those after it
-now-trail : (c : goal.In-loop-i) →
-    let a = (start c).args in
-    Trail a.w a.k a.t.now c.loop-i.out (cell c ∷ drop (c.loop-i.i + 1) a.us.now)
-now-trail c = rw (drop_next _ _ c.loop-i-test.true) at c.loop-i.invariant.1
-
-hop : (c : goal.In-loop-i) → let a = (start c).args in Hop a.w a.k a.t.now c.loop-i.out (cell c)
-hop c = (now-trail c).0
-
 pub loop-i-init : goal.loop-i-init
 loop-i-init c =
     (omega arith, c.requires.trail, least_most c.args.w c.args.k c.args.up c.args.t.now c.args.x c.args.us.now, omega arith)
 
 pub overflow_mul-d : goal.overflow_mul-d
-overflow_mul-d c = omega (arith, div-mul-le_self (cell c) (start c).args.k, (hop c).inside)
+overflow_mul-d c =
+    let now-trail : let a = c.args in
+    Trail a.w a.k a.t.now c.loop-i.out ((get_or c.args.us.now c.loop-i.i 0) ∷ drop (c.loop-i.i + 1) a.us.now) = rw (drop_next _ _ c.loop-i-test.true) at c.loop-i.invariant.1 in
+    let hop : let a = c.args in Hop a.w a.k a.t.now c.loop-i.out (get_or c.args.us.now c.loop-i.i 0) = now-trail.0 in
+    omega (arith, div-mul-le_self (get_or c.args.us.now c.loop-i.i 0) c.args.k, hop.inside)
 
 pub loop-i-preserved : goal.loop-i-preserved
 loop-i-preserved c =
+    let now-trail : let a = c.args in
+    Trail a.w a.k a.t.now c.loop-i.out ((get_or c.args.us.now c.loop-i.i 0) ∷ drop (c.loop-i.i + 1) a.us.now) = rw (drop_next _ _ c.loop-i-test.true) at c.loop-i.invariant.1 in
     let l = c.loop-i in
     let a = c.room-a.ensures in
     let b = c.room-b.ensures in
     let e = least_on _ _ _ _ _ _ _ c.loop-i-test.true in (
       omega (arith, c.loop-i-test.true),
-      (now-trail c).3,
+      now-trail.3,
       least_step _ _ _ _ _ c.lesser-best.ensures c.lesser.ensures a b e l.invariant.2,
       omega (arith, c.lesser-best.ensures, l.invariant.3),
     )
@@ -47,16 +38,36 @@ returns c =
     omega (arith, least_out c.args.w c.args.k c.args.up c.args.t.now l.out c.args.us.now l.i c.loop-i-test.false, l.invariant.2, l.invariant.3)
 
 pub overflow_add-d : goal.overflow_add-d
-overflow_add-d c = omega (arith, (hop c).twin_inside)
+overflow_add-d c =
+    let now-trail : let a = c.args in
+    Trail a.w a.k a.t.now c.loop-i.out ((get_or c.args.us.now c.loop-i.i 0) ∷ drop (c.loop-i.i + 1) a.us.now) = rw (drop_next _ _ c.loop-i-test.true) at c.loop-i.invariant.1 in
+    let hop : let a = c.args in Hop a.w a.k a.t.now c.loop-i.out (get_or c.args.us.now c.loop-i.i 0) = now-trail.0 in
+    omega (arith, hop.twin_inside)
 
 pub offset_bounds-t-u : goal.offset_bounds-t-u
-offset_bounds-t-u c = omega (arith, (hop c).inside)
+offset_bounds-t-u c =
+    let now-trail : let a = c.args in
+    Trail a.w a.k a.t.now c.loop-i.out ((get_or c.args.us.now c.loop-i.i 0) ∷ drop (c.loop-i.i + 1) a.us.now) = rw (drop_next _ _ c.loop-i-test.true) at c.loop-i.invariant.1 in
+    let hop : let a = c.args in Hop a.w a.k a.t.now c.loop-i.out (get_or c.args.us.now c.loop-i.i 0) = now-trail.0 in
+    omega (arith, hop.inside)
 
 pub bounds-t-u : goal.bounds-t-u
-bounds-t-u c = (hop c).inside
+bounds-t-u c =
+    let now-trail : let a = c.args in
+    Trail a.w a.k a.t.now c.loop-i.out ((get_or c.args.us.now c.loop-i.i 0) ∷ drop (c.loop-i.i + 1) a.us.now) = rw (drop_next _ _ c.loop-i-test.true) at c.loop-i.invariant.1 in
+    let hop : let a = c.args in Hop a.w a.k a.t.now c.loop-i.out (get_or c.args.us.now c.loop-i.i 0) = now-trail.0 in
+    hop.inside
 
 pub offset_bounds-t-d : goal.offset_bounds-t-d
-offset_bounds-t-d c = omega (arith, (hop c).twin_inside)
+offset_bounds-t-d c =
+    let now-trail : let a = c.args in
+    Trail a.w a.k a.t.now c.loop-i.out ((get_or c.args.us.now c.loop-i.i 0) ∷ drop (c.loop-i.i + 1) a.us.now) = rw (drop_next _ _ c.loop-i-test.true) at c.loop-i.invariant.1 in
+    let hop : let a = c.args in Hop a.w a.k a.t.now c.loop-i.out (get_or c.args.us.now c.loop-i.i 0) = now-trail.0 in
+    omega (arith, hop.twin_inside)
 
 pub bounds-t-d : goal.bounds-t-d
-bounds-t-d c = (hop c).twin_inside
+bounds-t-d c =
+    let now-trail : let a = c.args in
+    Trail a.w a.k a.t.now c.loop-i.out ((get_or c.args.us.now c.loop-i.i 0) ∷ drop (c.loop-i.i + 1) a.us.now) = rw (drop_next _ _ c.loop-i-test.true) at c.loop-i.invariant.1 in
+    let hop : let a = c.args in Hop a.w a.k a.t.now c.loop-i.out (get_or c.args.us.now c.loop-i.i 0) = now-trail.0 in
+    hop.twin_inside

@@ -9,14 +9,6 @@ use Rattle.settle.proofs.LawLoop.{closes_stop, closes_on, closes_out}
 use Rattle.settle.proofs.round.closes_by.Goals as goal
 
 -- the place, in row r, of the path's i-th column
-abbrev place : goal.At-loop-i → ℕ
-place l = l.args.r * l.args.k + get_or l.args.path.now l.loop-i.i 0 % l.args.k
-
-inside : (l : goal.At-loop-i) → place l < length l.args.t.now
-inside l = let h = l.requires.line.cells _ (mod-lt (get_or l.args.path.now l.loop-i.i 0) l.requires.wide) in omega arith
-
-small : (l : goal.At-loop-i) → place l < most_cells + most_columns
-small l = let h = mod-lt (get_or l.args.path.now l.loop-i.i 0) l.requires.wide in omega (arith, l.requires.line.small)
 
 pub returns-then-t-row-ne0 : goal.returns-then-t-row-ne0
 returns-then-t-row-ne0 c =
@@ -40,10 +32,16 @@ pub loop-i-init : goal.loop-i-init
 loop-i-init c = (omega arith, refl, omega arith)
 
 pub overflow_add-row : goal.overflow_add-row
-overflow_add-row c = omega (arith, small c)
+overflow_add-row c =
+    let small : (c.args.r * c.args.k + get_or c.args.path.now c.loop-i.i 0 % c.args.k) < most_cells + most_columns = let h = mod-lt (get_or c.args.path.now c.loop-i.i 0) c.requires.wide in omega (arith, c.requires.line.small) in
+    omega (arith, small)
 
 pub offset_bounds-t-row : goal.offset_bounds-t-row
-offset_bounds-t-row c = omega (arith, small c)
+offset_bounds-t-row c =
+    let small : (c.args.r * c.args.k + get_or c.args.path.now c.loop-i.i 0 % c.args.k) < most_cells + most_columns = let h = mod-lt (get_or c.args.path.now c.loop-i.i 0) c.requires.wide in omega (arith, c.requires.line.small) in
+    omega (arith, small)
 
 pub bounds-t-row : goal.bounds-t-row
-bounds-t-row c = omega (arith, inside c)
+bounds-t-row c =
+    let inside : (c.args.r * c.args.k + get_or c.args.path.now c.loop-i.i 0 % c.args.k) < length c.args.t.now = let h = c.requires.line.cells _ (mod-lt (get_or c.args.path.now c.loop-i.i 0) c.requires.wide) in omega arith in
+    omega (arith, inside)

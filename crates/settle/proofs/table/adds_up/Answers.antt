@@ -9,8 +9,6 @@ use Rattle.settle.proofs.LawTable.{adds_more, adds_over, adds_all}
 use Rattle.settle.proofs.table.adds_up.Goals as goal
 
 -- the cell of a turn is in the list
-inside : (c : goal.In-loop-j) → c.loop-j.i < length c.args.t.now
-inside c = omega (arith, c.requires.cells c.loop-j.j c.loop-j-test.true, c.loop-j.invariant.1)
 
 pub loop-j-init : goal.loop-j-init
 unfolding sum
@@ -38,13 +36,21 @@ returns c =
     adds_all _ _ _ _ _ l.invariant.2 ∙ ap (λ (k : ℕ). eqb c.args.x (sum c.args.t.now c.args.b c.args.s k)) e
 
 pub offset_bounds-t-i : goal.offset_bounds-t-i
-offset_bounds-t-i c = omega (arith, inside c)
+offset_bounds-t-i c =
+    let inside : c.loop-j.i < length c.args.t.now = omega (arith, c.requires.cells c.loop-j.j c.loop-j-test.true, c.loop-j.invariant.1) in
+    omega (arith, inside)
 
 pub bounds-t-i : goal.bounds-t-i
-bounds-t-i c = inside c
+bounds-t-i c =
+    let inside : c.loop-j.i < length c.args.t.now = omega (arith, c.requires.cells c.loop-j.j c.loop-j-test.true, c.loop-j.invariant.1) in
+    inside
 
 pub offset_bounds-t-i-in-loop-j : goal.offset_bounds-t-i-in-loop-j
-offset_bounds-t-i-in-loop-j c = omega (arith, inside c)
+offset_bounds-t-i-in-loop-j c =
+    let inside : c.loop-j.i < length c.args.t.now = omega (arith, c.requires.cells c.loop-j.j c.loop-j-test.true, c.loop-j.invariant.1) in
+    omega (arith, inside)
 
 pub bounds-t-i-in-loop-j : goal.bounds-t-i-in-loop-j
-bounds-t-i-in-loop-j c = inside c
+bounds-t-i-in-loop-j c =
+    let inside : c.loop-j.i < length c.args.t.now = omega (arith, c.requires.cells c.loop-j.j c.loop-j-test.true, c.loop-j.invariant.1) in
+    inside

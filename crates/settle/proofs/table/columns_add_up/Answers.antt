@@ -6,14 +6,6 @@ use Rattle.settle.specs.Table.{column_adds_up}
 use Rattle.settle.proofs.LawTable.{column_rest, last_row}
 use Rattle.settle.proofs.table.columns_add_up.Goals as goal
 
-abbrev start : goal.In-loop-j → goal.Start
-start c = c
-
--- the last row ends where the table does
-below : (c : goal.In-loop-j) →
-    ((start c).args.n - 1) * (start c).args.k + (start c).args.k ≡ (start c).args.n * (start c).args.k
-below c = last_row (start c).args.k (start c).requires.small.high
-
 pub overflow_mul-last : goal.overflow_mul-last
 overflow_mul-last c =
     let h = c.requires.small in
@@ -22,7 +14,7 @@ overflow_mul-last c =
 pub loop-j-preserved : goal.loop-j-preserved
 unfolding column_adds_up
 loop-j-preserved c =
-    let a = (start c).args in
+    let a = c.args in
     let l = c.loop-j in
     let e = rw l.invariant.1 at c.adds_up-ok.ensures in
     (omega (arith, c.loop-j-test.true), l.invariant.1, all_step (column_adds_up a.k a.n a.t.now) l.j l.invariant.2 e)
@@ -31,16 +23,22 @@ pub loop-j-init : goal.loop-j-init
 loop-j-init c = (omega arith, refl, all_start _)
 
 pub overflow_add-last : goal.overflow_add-last
-overflow_add-last c = omega (arith, below c, (start c).requires.small.few, c.loop-j.invariant.1)
+overflow_add-last c =
+    let below : (c.args.n - 1) * c.args.k + c.args.k ≡ c.args.n * c.args.k = last_row c.args.k c.requires.small.high in
+    omega (arith, below, c.requires.small.few, c.loop-j.invariant.1)
 
 pub offset_bounds-t-last : goal.offset_bounds-t-last
-offset_bounds-t-last c = omega (arith, below c, (start c).requires.small.few, c.loop-j.invariant.1)
+offset_bounds-t-last c =
+    let below : (c.args.n - 1) * c.args.k + c.args.k ≡ c.args.n * c.args.k = last_row c.args.k c.requires.small.high in
+    omega (arith, below, c.requires.small.few, c.loop-j.invariant.1)
 
 pub bounds-t-last : goal.bounds-t-last
-bounds-t-last c = omega (arith, below c, (start c).pre.size, c.loop-j.invariant.1)
+bounds-t-last c =
+    let below : (c.args.n - 1) * c.args.k + c.args.k ≡ c.args.n * c.args.k = last_row c.args.k c.requires.small.high in
+    omega (arith, below, c.requires.size, c.loop-j.invariant.1)
 
 pub adds_up-ok-requires : goal.adds_up-ok-requires
-adds_up-ok-requires c = column_rest (start c).pre c.loop-j-test.true
+adds_up-ok-requires c = column_rest c.requires c.loop-j-test.true
 
 pub returns : goal.returns
 returns c = all_done _ (c.loop-j.invariant.0, c.loop-j.invariant.2) c.loop-j-test.false

@@ -6,22 +6,16 @@ use Rattle.settle.specs.Table.{row_adds_up}
 use Rattle.settle.proofs.LawTable.{row_rest}
 use Rattle.settle.proofs.table.rows_add_up.Goals as goal
 
-abbrev start : goal.In-loop-i → goal.Start
-start c = c
-
--- a row ends where the table does, at the latest
-below : (c : goal.In-loop-i) → c.loop-i.i * (start c).args.k + (start c).args.k ≤ (start c).args.n * (start c).args.k
-below c = omega (arith, mul-le-mul_right (start c).args.k c.loop-i-test.true)
-
 pub bounds-t-b : goal.bounds-t-b
 bounds-t-b c =
-    let h = (start c).pre in
-    omega (arith, below c, h.size, h.small.wide)
+    let below : c.loop-i.i * c.args.k + c.args.k ≤ c.args.n * c.args.k = omega (arith, mul-le-mul_right c.args.k c.loop-i-test.true) in
+    let h = c.requires in
+    omega (arith, below, h.size, h.small.wide)
 
 pub loop-i-preserved : goal.loop-i-preserved
 unfolding row_adds_up
 loop-i-preserved c =
-    let a = (start c).args in
+    let a = c.args in
     let l = c.loop-i in
     (omega (arith, c.loop-i-test.true), all_step (row_adds_up a.k a.t.now) l.i l.invariant.1 c.adds_up-ok.ensures)
 
@@ -29,16 +23,22 @@ pub loop-i-init : goal.loop-i-init
 loop-i-init c = (omega arith, all_start _)
 
 pub overflow_mul-b : goal.overflow_mul-b
-overflow_mul-b c = omega (arith, below c, (start c).requires.small.few)
+overflow_mul-b c =
+    let below : c.loop-i.i * c.args.k + c.args.k ≤ c.args.n * c.args.k = omega (arith, mul-le-mul_right c.args.k c.loop-i-test.true) in
+    omega (arith, below, c.requires.small.few)
 
 pub offset_bounds-t-b : goal.offset_bounds-t-b
-offset_bounds-t-b c = omega (arith, below c, (start c).requires.small.few)
+offset_bounds-t-b c =
+    let below : c.loop-i.i * c.args.k + c.args.k ≤ c.args.n * c.args.k = omega (arith, mul-le-mul_right c.args.k c.loop-i-test.true) in
+    omega (arith, below, c.requires.small.few)
 
 pub overflow_add-b : goal.overflow_add-b
-overflow_add-b c = omega (arith, below c, (start c).pre.small.few)
+overflow_add-b c =
+    let below : c.loop-i.i * c.args.k + c.args.k ≤ c.args.n * c.args.k = omega (arith, mul-le-mul_right c.args.k c.loop-i-test.true) in
+    omega (arith, below, c.requires.small.few)
 
 pub adds_up-ok-requires : goal.adds_up-ok-requires
-adds_up-ok-requires c = row_rest (start c).pre c.loop-i-test.true
+adds_up-ok-requires c = row_rest c.requires c.loop-i-test.true
 
 pub returns : goal.returns
 returns c = all_done _ c.loop-i.invariant c.loop-i-test.false

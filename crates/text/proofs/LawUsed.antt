@@ -2,15 +2,10 @@
 use Prim.Native.Nat.{ℕ}
 use mathlib.Core.Path.{◌≡◌, refl}
 use mathlib.Core.List.{List, [], ◌∷◌}
-use mathlib.Core.Logic.{⊎_elim}
 use mathlib.Core.Option.{Option, none, some}
-use native.Mathlib.Omega.{arith}
-use denote.Enum.Declared.{tag_of}
-use types.Run.{OneOf}
 use Rattle.search.proofs.LawTest.{clash}
 use Rattle.amounts.specs.declared.reading.Taken.{Taken}
 use Rattle.amounts.specs.declared.reading.Taken.TheVariants.{Is, Over, Bad}
-use Rattle.amounts.specs.contracts.reading.Taken.{the_type}
 use Rattle.text.specs.Written.{ahead, all_taken}
 
 -- a reading x, which the rules read as y
@@ -19,13 +14,13 @@ module _ (x y : Taken) (readings : List Taken) (same : x ≡ y) where
   unfolding all_taken
   first_taken t is = rw (← same, is) refl
 
-  -- in its second case or its third: over its limit, or bad
-  pub first_bad : OneOf (1 ∷ 2 ∷ []) (tag_of the_type x) → all_taken (y ∷ readings) ≡ none
+  -- not in its first case: over its limit, or bad
+  pub first_bad : ((n : ℕ) → x ≡ Is n → ⊥) → all_taken (y ∷ readings) ≡ none
   unfolding all_taken
   first_bad h = rw (← same) (refused x h)
     where
-      refused : (z : Taken) → OneOf (1 ∷ 2 ∷ []) (tag_of the_type z) → all_taken (z ∷ readings) ≡ none
-      refused (Is t) g = absurd (⊎_elim (λ (e : ◌≡◌ {A = ℕ} 0 1). omega arith) (λ (e : ◌≡◌ {A = ℕ} 0 2). omega arith) g)
+      refused : (z : Taken) → ((n : ℕ) → z ≡ Is n → ⊥) → all_taken (z ∷ readings) ≡ none
+      refused (Is t) g = absurd (g t refl)
       refused Over g = refl
       refused Bad g = refl
 

@@ -5,11 +5,9 @@ use mathlib.Core.Bool.{false}
 use mathlib.Core.List.{List}
 use native.Mathlib.Omega.{arith}
 use lib.ListN.{drop}
-use denote.Enum.Declared.{tag_of}
 use Rattle.little.specs.Part.{part_of}
 use Rattle.numerals.specs.declared.typed.Typed.{Typed}
 use Rattle.numerals.specs.declared.typed.Typed.TheVariants.{Is, Malformed}
-use Rattle.numerals.specs.contracts.typed.Typed.{the_type}
 use Rattle.records.specs.Records.{pieces, field_end}
 use Rattle.records.specs.Follow.{behind}
 use Rattle.records.specs.declared.field.Behind.{Behind}
@@ -24,13 +22,13 @@ module _ (text : List ℕ) (at takes : ℕ) where
       → typed ≡ field_number takes bytes → typed ≡ field_number takes (pieces false (drop at text)).field
   number_there e b t = t ∙ rw (b, e, field_bytes text at) refl
 
-  pub read_broken : {typed : Typed} → tag_of the_type typed ≡ 1 → typed ≡ field_number takes (pieces false (drop at text)).field
+  pub read_broken : {typed : Typed} → ((n : ℕ) → typed ≡ Is n → ⊥) → typed ≡ field_number takes (pieces false (drop at text)).field
       → Broken ≡ field_read text at takes
   unfolding field_read
-  read_broken {typed} tag same = rw (← same) (go typed tag)
+  read_broken {typed} other same = rw (← same) (go typed other)
     where
-      go : (x : Typed) → tag_of the_type x ≡ 1 → Broken ≡ with_number x (behind text (field_end text at))
-      go (Is n) t = absurd (omega (arith, t))
+      go : (x : Typed) → ((n : ℕ) → x ≡ Is n → ⊥) → Broken ≡ with_number x (behind text (field_end text at))
+      go (Is n) t = absurd (t n refl)
       go Malformed t = refl
 
   pub read_number : {typed : Typed} {n end : ℕ} {follows : Behind} → typed ≡ Is n → typed ≡ field_number takes (pieces false (drop at text)).field

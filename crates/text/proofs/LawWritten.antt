@@ -68,6 +68,8 @@ numerals_again : (takes ns others : List ℕ) (texts : List (List ℕ)) (numbers
     → (needed : ℕ) → numbers_in needed (takes ++ others) (map numeral ns ++ texts) ≡ some (ns ++ numbers)
 unfolding numbers_in
 numerals_again [] [] others texts numbers done e needed = e needed
+numerals_again [] (n ∷ ns) others texts numbers fits e needed = elim fits [ ]
+numerals_again (t ∷ takes) [] others texts numbers fits e needed = elim fits [ ]
 numerals_again (t ∷ takes) (n ∷ ns) others texts numbers (f and fs) e needed =
     rw (numeral_again t n f, numerals_again takes ns others texts numbers fs e (needed - 1))
 

@@ -1,0 +1,14 @@
+-- The kind, a zero byte and the two amounts.
+use Rattle.text.specs.Binary.{words_of, line_words}
+use Rattle.text.specs.Inner.{amount_bytes}
+use Rattle.numerals.proofs.LawPuts.{from_place, nothing, then}
+use Rattle.text.proofs.words.lay_amounts.Goals as goal
+
+pub returns : goal.returns
+unfolding amount_bytes words_of line_words
+returns c =
+    then (from_place c.one_byte-next.ensures)
+    (then (from_place c.one_byte-next-2.ensures)
+    (then (from_place c.eight_bytes-next.ensures)
+    (then (from_place c.eight_bytes-next-2.ensures)
+    (nothing _ _))))

@@ -4,7 +4,7 @@ use Rattle.std.proofs.Common.{◌≡◌, ℕ, zero, suc, ◌+◌, ◌-◌, ◌*�
 use Prim.Native.Nat.{compare, Ordering}
 use native.Mathlib.Nat.{lt-div-mul-add}
 use lib.Dec.{is_le, compare_is_eq, nleb→lt}
-use lib.Ieee.{Float, nan, inf, fin, binary64, prec, low, up, down, unlike, nearest, size, odd, units, round, div, of_int, of_bits, to_bits, is_nan}
+use lib.Ieee.{Float, nan, inf, fin, binary64, prec, low, up, down, unlike, nearest, size, odd, units, round, div, of_int, of_bits, is_nan}
 use lib.Ieee.Bits.{of_bits-to_bits, to_bits-lt}
 use lib.Ieee.Digits.{size_reaches}
 use lib.Ieee.Exact.{HasValue}

@@ -1,5 +1,5 @@
 -- A number as it was typed: a numeral, or a decimal numeral. Assumes nothing.
-use Rattle.std.specs.Prelude.{ℕ, ◌+◌, ◌-◌, ◌*◌, ◌^◌, Bool, true, cond, ◌&&◌, ◌||◌, List, [], ◌∷◌, leb, eqb, length, take, drop}
+use Rattle.std.specs.Prelude.{ℕ, ◌+◌, ◌-◌, ◌*◌, ◌^◌, Bool, true, cond, ◌&&◌, List, [], ◌∷◌, leb, eqb, length, take, drop}
 use Rattle.little.specs.Read.{byte_at}
 use Rattle.search.specs.Test.{every}
 use Rattle.search.specs.First.{first}

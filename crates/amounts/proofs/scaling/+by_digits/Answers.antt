@@ -1,6 +1,6 @@
 -- What the call gives, times 2^k, and the last digits times n make x · n by `next_parts`. A step's sum is below d · 2^(k + 1), which fits
 -- by `Digit`, and no quotient is above x. Assumes nothing.
-use Rattle.std.proofs.Common.{◌≡◌, ℕ, ◌*◌, ◌%◌, ◌^◌, ◌<◌, lt_of_le_of_lt, mod-lt, arith}
+use Rattle.std.proofs.Common.{ℕ, ◌*◌, ◌%◌, ◌^◌, ◌<◌, lt_of_le_of_lt, mod-lt, arith}
 use Rattle.amounts.proofs.LawScaling.{next, next_parts, digit_room, quotient_most, high_most, base_two, shorter}
 use Rattle.amounts.proofs.scaling.+by_digits.Goals as goal
 

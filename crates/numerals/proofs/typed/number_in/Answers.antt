@@ -1,4 +1,3 @@
-use Prim.Native.Nat.{◌-◌}
 use mathlib.Core.Path.{sym, ◌∙◌}
 use native.Mathlib.Omega.{arith}
 use Rattle.numerals.proofs.LawTyped.{digit_low, onward_digit, onward_other, onward_over, onward_done, size_other, size_right}

@@ -1,4 +1,3 @@
-use Prim.Native.Nat.{◌-◌}
 use borrow.Author.Tests.{eq-eqb, ne_eqb}
 use Rattle.search.proofs.LawFirst.{first_start, first_more, first_here, first_done}
 use Rattle.numerals.specs.Typed.{point_in}

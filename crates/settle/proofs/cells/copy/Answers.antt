@@ -1,5 +1,4 @@
 use mathlib.Core.Path.{refl}
-use Prim.Native.Nat.{◌-◌}
 use native.Mathlib.Omega.{arith}
 use Rattle.settle.proofs.LawCells.{written_none, written_more, written_all}
 use Rattle.settle.proofs.cells.copy.Goals as goal

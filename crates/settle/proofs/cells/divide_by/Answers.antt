@@ -1,5 +1,4 @@
 use mathlib.Core.Path.{refl}
-use Prim.Native.Nat.{◌-◌}
 use native.Mathlib.Omega.{arith}
 use Rattle.settle.proofs.LawCells.{written_none, written_more, written_all, length_units, at_units}
 use Rattle.settle.proofs.cells.divide_by.Goals as goal

@@ -1,5 +1,4 @@
 use mathlib.Core.Path.{refl, sym, ◌∙◌}
-use Prim.Native.Nat.{◌-◌}
 use native.Mathlib.Omega.{arith}
 use Rattle.settle.proofs.LawLoop.{rises_stop, rises_on, rises_out}
 use Rattle.settle.proofs.moving.rises.Goals as goal

@@ -1,7 +1,7 @@
 -- The path stands at the array's end, from `at` on, newest cell first; the walk from where the loop stands closes the round that it closes from
 -- its start. Each turn takes a column off those that are new, so the loop's test never ends it: it returns where the round closes.
 use mathlib.Core.Path.{◌≡◌}
-use Prim.Native.Nat.{◌-◌, ◌/◌, ◌≤◌}
+use Prim.Native.Nat.{◌/◌, ◌≤◌}
 use lib.ListN.{length, drop}
 use Rattle.settle.specs.Step as spec
 use Rattle.settle.specs.Table.{most_columns}

@@ -1,6 +1,6 @@
 use mathlib.Core.Path.{◌≡◌, refl, sym, ap, ◌∙◌}
 use mathlib.Core.Logic.{◌≢◌, inl, inr, ◌⊎◌}
-use Prim.Native.Nat.{ℕ, ◌+◌, ◌-◌, ◌*◌, ◌%◌, ◌<◌}
+use Prim.Native.Nat.{ℕ, ◌+◌, ◌*◌, ◌%◌, ◌<◌}
 use native.Mathlib.Nat.{mul-le-mul_right}
 use native.Mathlib.Omega.{arith}
 use lib.ListN.{length}
@@ -31,10 +31,10 @@ loop-k-preserved c =
     let place : at c.args.t.now (c.args.b + c.loop-k.k * c.args.s) ≡ at c.args.t.now c.loop-k.i = ap (at c.args.t.now) (sym c.loop-k.invariant.1) in
     let w = c.args.w in
     let passed : (c.loop-k.k ≡ c.args.q) ⊎ Whole w (at c.args.t.now (c.args.b + c.loop-k.k * c.args.s)) =
-        elim c.if-k-q.branch [
-          then-k-q+else-t-i-ne0 z ↦ inr (ap (λ (y : ℕ). y % w) place ∙ z.if-t-i-ne0.false)
-        | else-k-q z ↦ inl z.if-k-q.false
-        ] in
+    elim c.if-k-q.branch [
+      | then-k-q+else-t-i-ne0 z ↦ inr (ap (λ (y : ℕ). y % w) place ∙ z.if-t-i-ne0.false)
+      | else-k-q z ↦ inl z.if-k-q.false
+    ] in
     (omega arith, omega (arith, c.loop-k.invariant.1), sym (seek_skip _ _ _ _ _ _ _ c.loop-k-test.true passed) ∙ c.loop-k.invariant.2)
 
 pub returns : goal.returns

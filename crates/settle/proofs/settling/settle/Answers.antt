@@ -1,5 +1,4 @@
 use mathlib.Core.Path.{sym, ◌∙◌}
-use Prim.Native.Nat.{◌-◌}
 use native.Mathlib.Omega.{arith}
 use Rattle.settle.proofs.LawStepMirrored.{settling_start, settling_next, settling_end, settling_done, unsettled}
 use Rattle.settle.proofs.LawStepMirrored.{sought_all, sought_on}

@@ -1,5 +1,4 @@
 use mathlib.Core.Path.{refl}
-use Prim.Native.Nat.{◌-◌}
 use native.Mathlib.Omega.{arith}
 use Rattle.search.proofs.LawTest.{all_start, all_step, all_done}
 use Rattle.settle.specs.Table.{cell_fits}

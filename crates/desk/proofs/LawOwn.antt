@@ -22,7 +22,7 @@ use Rattle.shares.specs.Share.{goes_with, share_of, share_by}
 use Rattle.shares.specs.declared.share.Reading.TheVariants.{Throughout}
 use Rattle.fugitive.specs.Grades.{is_given, grades_bad}
 use Rattle.answers.specs.declared.answer.LineFault.TheVariants.{NoTechnique}
-use Rattle.answers.specs.declared.answer.FileFault.TheVariants.{OwnBookMalformed, BookMalformed}
+use Rattle.answers.specs.declared.answer.FileFault.TheVariants.{OwnBookMalformed}
 use Rattle.answers.specs.declared.answer.Outcome.{Outcome}
 use Rattle.answers.specs.declared.answer.Outcome.TheVariants.{RefusedFile}
 use Rattle.desk.specs.Lent.{Sources, sources, lent}

@@ -9,7 +9,7 @@ use Rattle.headers.specs.Sheet.{line_count, most_lines}
 use Rattle.headers.specs.Unit.{unit_of_sheet}
 use Rattle.desk.specs.Cells.{table_size}
 use Rattle.desk.specs.Works.{Results, run_of}
-use Rattle.numerals.specs.Laid.{laid, reach}
+use Rattle.numerals.specs.Laid.{reach}
 use Rattle.report.specs.declared.Written.{Written}
 use Rattle.report.specs.Report.{exact_word, refused_word, line_word, line_end, most_number, most_text}
 use Rattle.report.specs.Report.{figures_text, refusal_text, written_of}

@@ -3,17 +3,16 @@ use Prim.Native.Nat.{ℕ, zero, suc, ◌+◌, ◌^◌, ◌<◌}
 use mathlib.Core.Path.{◌≡◌, refl, sym, ap, ◌∙◌}
 use mathlib.Core.Bool.{true}
 use mathlib.Core.List.{List, [], ◌∷◌}
-use mathlib.Core.Option.{Option, none, some}
+use mathlib.Core.Option.{some}
 use native.Mathlib.Nat.{add-zero, zero-add}
 use native.Mathlib.Omega.{arith}
 use lib.Ieee.{Float, binary64, of_bits}
 use lib.ListN.{length, get_or}
 use borrow.Author.Tests.{ne_eqb}
-use Rattle.search.proofs.LawTest.{clash}
 use Rattle.little.specs.Read.{AreBytes}
 use Rattle.amounts.specs.Reading.{parts_per_unit, taken_of, parts_bits}
 use Rattle.amounts.specs.declared.reading.Taken.{Taken}
-use Rattle.amounts.specs.declared.reading.Taken.TheVariants.{Is, Over, Bad}
+use Rattle.amounts.specs.declared.reading.Taken.TheVariants.{Is}
 use Rattle.amounts.proofs.LawReading.{taken_most}
 use Rattle.amounts.proofs.LawParts.{parts_back}
 use Rattle.headers.specs.Sheet.{SheetHeader, sheet_header, line_count}
@@ -35,7 +34,7 @@ use Rattle.text.specs.Binary.{used_readings, reading_bits, binary_sheet}
 use Rattle.text.specs.Typed.{typed_sheet}
 use Rattle.text.specs.Convert.{Gives}
 use Rattle.text.specs.Read.{sheet_of_text}
-use Rattle.text.specs.Written.{readings_of, used_of, ahead, all_taken, lines_from, lines_text, text_of_sheet}
+use Rattle.text.specs.Written.{readings_of, used_of, all_taken, lines_from, lines_text, text_of_sheet}
 use Rattle.text.specs.Declare.{DeclaredText}
 use Rattle.text.specs.Inner.{padded, line_numbers, taken_numbers, lines_numbers, sheet_numbers}
 use Rattle.text.specs.Round.{AccountsAlike, ReadAgain}

@@ -1,7 +1,7 @@
 -- The used readings of a line: each is taken, or the line is refused.
 use Prim.Native.Nat.{ℕ}
 use mathlib.Core.Path.{◌≡◌, refl}
-use mathlib.Core.List.{List, [], ◌∷◌}
+use mathlib.Core.List.{List, ◌∷◌}
 use mathlib.Core.Option.{Option, none, some}
 use Rattle.search.proofs.LawTest.{clash}
 use Rattle.amounts.specs.declared.reading.Taken.{Taken}

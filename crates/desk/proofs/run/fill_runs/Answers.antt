@@ -32,14 +32,14 @@ pub overflow_cast-runs : goal.overflow_cast-runs
 overflow_cast-runs c =
     let l = c.loop-k in
     let here : c.run_before-run.result ≡ run_of c.args.t.now (c.args.size - (l.k - 1)) (l.k - 1) =
-        c.run_before-run.ensures ∙ run_here _ _ l.k _ _ _ _ c.code_in-code.ensures.eq c.efficiency_in.ensures.eq l.invariant.2 l.invariant.1 c.loop-k-test.true l.invariant.0 in
+    c.run_before-run.ensures ∙ run_here _ _ l.k _ _ _ _ c.code_in-code.ensures.eq c.efficiency_in.ensures.eq l.invariant.2 l.invariant.1 c.loop-k-test.true l.invariant.0 in
     omega (arith, here, run_most c.args.t.now (c.args.size - (l.k - 1)) (l.k - 1))
 
 pub loop-k-preserved-then-k-eq0 : goal.loop-k-preserved-then-k-eq0
 loop-k-preserved-then-k-eq0 c =
     let l = c.loop-k in
     let here : c.run_before-run.result ≡ run_of c.args.t.now (c.args.size - (l.k - 1)) (l.k - 1) =
-        c.run_before-run.ensures ∙ run_here _ _ l.k _ _ _ _ c.code_in-code.ensures.eq c.efficiency_in.ensures.eq l.invariant.2 l.invariant.1 c.loop-k-test.true l.invariant.0 in
+    c.run_before-run.ensures ∙ run_here _ _ l.k _ _ _ _ c.code_in-code.ensures.eq c.efficiency_in.ensures.eq l.invariant.2 l.invariant.1 c.loop-k-test.true l.invariant.0 in
     let up : l.k ≡ l.k - 1 + 1 = omega arith in
     let same = length-set l.runs ((l.k - 1) / runs_apart) c.run_before-run.result in
     let filled = filled_kept _ _ (l.k - 1) l.runs (rw up at l.invariant.5) _ c.if-k-eq0.true (omega arith) here in
@@ -49,7 +49,7 @@ pub loop-k-preserved : goal.loop-k-preserved
 loop-k-preserved c =
     let l = c.loop-k in
     let here : c.run_before-run.result ≡ run_of c.args.t.now (c.args.size - (l.k - 1)) (l.k - 1) =
-        c.run_before-run.ensures ∙ run_here _ _ l.k _ _ _ _ c.code_in-code.ensures.eq c.efficiency_in.ensures.eq l.invariant.2 l.invariant.1 c.loop-k-test.true l.invariant.0 in
+    c.run_before-run.ensures ∙ run_here _ _ l.k _ _ _ _ c.code_in-code.ensures.eq c.efficiency_in.ensures.eq l.invariant.2 l.invariant.1 c.loop-k-test.true l.invariant.0 in
     let up : l.k ≡ l.k - 1 + 1 = omega arith in
     let filled = filled_between _ _ (l.k - 1) l.runs (rw up at l.invariant.5) c.if-k-eq0.false in
     (omega arith, here, c.code_in-code.ensures.eq, l.invariant.3, l.invariant.4, filled)

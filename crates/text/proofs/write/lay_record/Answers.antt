@@ -1,4 +1,3 @@
-use Prim.Native.Nat.{◌-◌}
 use native.Mathlib.Omega.{arith}
 use Rattle.text.proofs.LawPut.{fields_start, fields_size, fields_done, fields_step}
 use Rattle.text.proofs.write.lay_record.Goals as goal

@@ -1,5 +1,12 @@
-// The desk as a program: of the folder it is started in it prints the report. `folder` says which files are read, and what is said of them.
+// The desk as a program: in the folder it is started in it reads `own.bin` where that is there, `book.bin`, `fugitive.bin`, and
+// `bundle.bin` where that is there, else `sheet.bin`, else `sheet.csv`, and prints the report; asked by `--settle`, how the shown table is
+// settled.
 #![tactic(auto)]
+
+mod file;
+mod picture;
+mod put;
+mod settled;
 
 ghost use Rattle.std.specs.Prelude.{◌≡◌, ◌≤◌, length, take};
 ghost use Rattle.desk.specs.Lent.{sources, lent};
@@ -7,15 +14,50 @@ ghost use Rattle.report.specs.Report.{most_text, report_of};
 ghost use Rattle.report.specs.Bundle.{most_bundle_text, bundle_report_of};
 ghost use Rattle.report.specs.Typed.{text_report_of};
 
-use folder::file::ROOM;
-use folder::refusals::say_refusals;
-use folder::say::{End, ended, said};
-use folder::sheet::{Kind, load_sheet};
-use folder::sources::load_sources;
-use folder::taken::say_taken;
-use libc::STDOUT_FILENO;
+use file::{is_missing, load, load_open};
+use headers::book::NO_ROWS;
+use headers::house::MOST_BYTES;
 use little::part::part;
+use numerals::bytes::lay;
 use report::{MOST_BUNDLE_TEXT, MOST_TEXT, Written, report, report_bundle, report_text};
+use settled::{settled_bundle, settled_sheet, settled_text};
+use std::env::Env;
+use std::fs;
+use std::io::{self, Read};
+use std::rt::Files;
+
+// The longest word that is asked for. Of a longer one no letter is counted.
+const MOST_WORD: usize = 8;
+
+// What is printed of the folder.
+#[derive(Clone, Copy)]
+enum Asked {
+    Figures,
+    Settling,
+}
+
+fn read_asked(rt: &impl Env) -> Asked {
+    let mut word = [0u8; MOST_WORD];
+    let letters = match rt.arg(1, &mut word) {
+        Ok(letters) => letters,
+        Err(_) => 0,
+    };
+    if part(&word, 0, letters) == b"--settle".as_slice() {
+        Asked::Settling
+    } else {
+        Asked::Figures
+    }
+}
+
+// Where there is no own book the works has no factors of its own, and lends one without rows. One that is there is taken, also where it
+// cannot be read: figures by the published factors must not be declared in its place.
+fn load_own(rt: &impl Files, room: &mut [u8]) -> usize {
+    let file = fs::open(rt, "own.bin");
+    if is_missing(&file) {
+        return lay(room, 0, &NO_ROWS);
+    }
+    load_open(file, room)
+}
 
 // The bytes of the report, which a text of that size always has room for.
 fn whole_report(own: &[u8], book: &[u8], fugitive: &[u8], sheet: &[u8], text: &mut [u8]) -> usize
@@ -65,58 +107,165 @@ fn whole_bundle_report(
     }
 }
 
-// One write.
-fn print(report: &[u8]) -> End {
-    if !io::write_all(STDOUT_FILENO, report) {
-        said(b"the report", b" could not be written");
-        return End::Trouble;
+// A word on standard error where something could not be written.
+fn told(rt: &impl Eprint, written: bool) {
+    if !written {
+        let _ = rt.eprint("checkraven: the report could not be written\n");
     }
-    if say_refusals(report) {
-        return End::Refused;
-    }
-    End::Answered
 }
 
-fn print_report(own: &[u8], book: &[u8], fugitive: &[u8], sheet: &[u8]) -> End {
+// One write.
+fn print(rt: &(impl Print + Eprint), text: &[u8], bytes: usize) {
+    told(rt, rt.write_all(part(text, 0, bytes)).is_ok());
+}
+
+fn print_report(
+    rt: &(impl Print + Eprint),
+    own: &[u8],
+    book: &[u8],
+    fugitive: &[u8],
+    sheet: &[u8],
+) {
     let mut text = [0u8; MOST_TEXT];
     let bytes = whole_report(own, book, fugitive, sheet, &mut text);
-    print(part(&text, 0, bytes))
+    print(rt, &text, bytes);
 }
 
-fn print_text_report(own: &[u8], book: &[u8], fugitive: &[u8], typed: &[u8]) -> End {
+fn print_text_report(
+    rt: &(impl Print + Eprint),
+    own: &[u8],
+    book: &[u8],
+    fugitive: &[u8],
+    typed: &[u8],
+) {
     let mut text = [0u8; MOST_TEXT];
     let bytes = whole_text_report(own, book, fugitive, typed, &mut text);
-    print(part(&text, 0, bytes))
+    print(rt, &text, bytes);
 }
 
-fn print_bundle_report(own: &[u8], book: &[u8], fugitive: &[u8], bundle: &[u8]) -> End {
-    let mut text = [0u8; MOST_BUNDLE_TEXT];
+// Room for a bundle's report. Only its length is told, so that nothing else that is proved has to look at so many zeros.
+fn bundle_room() -> [u8; MOST_BUNDLE_TEXT]
+    ensures { most_bundle_text ≡ length result }
+{
+    [0; MOST_BUNDLE_TEXT]
+}
+
+fn print_bundle_report(
+    rt: &(impl Print + Eprint),
+    own: &[u8],
+    book: &[u8],
+    fugitive: &[u8],
+    bundle: &[u8],
+) {
+    let mut text = bundle_room();
     let bytes = whole_bundle_report(own, book, fugitive, bundle, &mut text);
-    print(part(&text, 0, bytes))
+    print(rt, &text, bytes);
 }
 
-fn print_either(kind: Kind, own: &[u8], book: &[u8], fugitive: &[u8], sheet: &[u8]) -> End {
-    match kind {
-        Kind::Bundle => print_bundle_report(own, book, fugitive, sheet),
-        Kind::Binary => print_report(own, book, fugitive, sheet),
-        Kind::Typed => print_text_report(own, book, fugitive, sheet),
+// Here and below one byte more than the limit is read, so that a longer file is refused and not cut.
+fn print_sheet<F: Read + Drop>(
+    rt: &(impl Print + Eprint),
+    asked: Asked,
+    own: &[u8],
+    book: &[u8],
+    fugitive: &[u8],
+    file: io::Result<F>,
+) {
+    let mut sheet = [0u8; MOST_BYTES + 1];
+    let bytes = load_open(file, &mut sheet);
+    match asked {
+        Asked::Figures => print_report(rt, own, book, fugitive, part(&sheet, 0, bytes)),
+        Asked::Settling => told(
+            rt,
+            settled_sheet(rt, own, book, fugitive, part(&sheet, 0, bytes)),
+        ),
     }
 }
 
-fn main() {
-    let mut own = [0u8; ROOM];
-    let mut book = [0u8; ROOM];
-    let mut fugitive = [0u8; ROOM];
-    let files = load_sources(&mut own, &mut book, &mut fugitive);
-    let mut sheet = [0u8; ROOM];
-    let taken = load_sheet(&mut sheet);
-    say_taken(files, taken);
-    let kind = taken.kind;
-    ended(print_either(
-        kind,
-        part(&own, 0, files.own.bytes),
-        part(&book, 0, files.book.bytes),
-        part(&fugitive, 0, files.fugitive.bytes),
-        part(&sheet, 0, taken.file.bytes),
-    ));
+fn print_typed<F: Read + Drop>(
+    rt: &(impl Print + Eprint),
+    asked: Asked,
+    own: &[u8],
+    book: &[u8],
+    fugitive: &[u8],
+    file: io::Result<F>,
+) {
+    let mut typed = [0u8; MOST_BYTES + 1];
+    let bytes = load_open(file, &mut typed);
+    match asked {
+        Asked::Figures => print_text_report(rt, own, book, fugitive, part(&typed, 0, bytes)),
+        Asked::Settling => told(
+            rt,
+            settled_text(rt, own, book, fugitive, part(&typed, 0, bytes)),
+        ),
+    }
+}
+
+// A binary sheet that is there is taken, also where it cannot be read; and where there is no sheet at all, it counts as an empty one.
+fn print_either(
+    rt: &(impl Files + Print + Eprint),
+    asked: Asked,
+    own: &[u8],
+    book: &[u8],
+    fugitive: &[u8],
+) {
+    let file = fs::open(rt, "sheet.bin");
+    if is_missing(&file) {
+        let typed = fs::open(rt, "sheet.csv");
+        if is_missing(&typed) {
+            print_sheet(rt, asked, own, book, fugitive, file);
+        } else {
+            print_typed(rt, asked, own, book, fugitive, typed);
+        }
+    } else {
+        print_sheet(rt, asked, own, book, fugitive, file);
+    }
+}
+
+fn print_bundle<F: Read + Drop>(
+    rt: &(impl Print + Eprint),
+    asked: Asked,
+    own: &[u8],
+    book: &[u8],
+    fugitive: &[u8],
+    file: io::Result<F>,
+) {
+    let mut bundle = [0u8; MOST_BYTES + 1];
+    let bytes = load_open(file, &mut bundle);
+    match asked {
+        Asked::Figures => print_bundle_report(rt, own, book, fugitive, part(&bundle, 0, bytes)),
+        Asked::Settling => told(
+            rt,
+            settled_bundle(rt, own, book, fugitive, part(&bundle, 0, bytes)),
+        ),
+    }
+}
+
+// A bundle that is there but cannot be read is refused as an empty one: the folder's sheet must not be declared in its place.
+fn main(rt: HostRuntime) {
+    let mut own = [0u8; MOST_BYTES + 1];
+    let own_bytes = load_own(&rt, &mut own);
+    let mut book = [0u8; MOST_BYTES + 1];
+    let book_bytes = load(&rt, "book.bin", &mut book);
+    let mut fugitive = [0u8; MOST_BYTES + 1];
+    let fugitive_bytes = load(&rt, "fugitive.bin", &mut fugitive);
+    let file = fs::open(&rt, "bundle.bin");
+    if is_missing(&file) {
+        print_either(
+            &rt,
+            read_asked(&rt),
+            part(&own, 0, own_bytes),
+            part(&book, 0, book_bytes),
+            part(&fugitive, 0, fugitive_bytes),
+        );
+    } else {
+        print_bundle(
+            &rt,
+            read_asked(&rt),
+            part(&own, 0, own_bytes),
+            part(&book, 0, book_bytes),
+            part(&fugitive, 0, fugitive_bytes),
+            file,
+        );
+    }
 }

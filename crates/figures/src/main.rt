@@ -2,20 +2,21 @@
 // tables that are settled step by step.
 #![tactic(auto)]
 
+mod file;
 mod print;
 mod runs;
 mod settled;
 mod worked;
 
-fn main() {
-    worked::readings();
-    worked::scalings();
-    worked::lines();
-    runs::runs();
-    runs::limit_runs();
-    runs::fugitive_runs();
-    runs::own_runs();
-    runs::bundle_runs();
-    runs::typed_runs();
-    settled::settlings();
+fn main(rt: HostRuntime) {
+    worked::readings(&rt);
+    worked::scalings(&rt);
+    worked::lines(&rt);
+    runs::runs(&rt);
+    runs::limit_runs(&rt);
+    runs::fugitive_runs(&rt);
+    runs::own_runs(&rt);
+    runs::bundle_runs(&rt);
+    runs::typed_runs(&rt);
+    settled::settlings(&rt);
 }

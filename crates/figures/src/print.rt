@@ -1,11 +1,9 @@
-// What the figures are printed with.
-use libc::STDOUT_FILENO;
-
-pub(crate) fn say(words: &[u8]) {
-    io::write_all(STDOUT_FILENO, words);
+// What the figures are printed with. What can't be written is left out.
+pub(crate) fn say(rt: &impl Print, words: &[u8]) {
+    let _ = rt.write_all(words);
 }
 
-pub(crate) fn number(n: u64) {
-    say(b" ");
-    io::print_decimal(STDOUT_FILENO, n);
+pub(crate) fn number(rt: &impl Print, n: u64) {
+    say(rt, b" ");
+    let _ = rt.print(n);
 }

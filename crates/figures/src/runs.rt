@@ -1,14 +1,17 @@
 // The desk over the folders of data/: each has a book, a fugitive table and a sheet, which may be typed, or a bundle, and the listing that
 // `make-files` made them from, or what was changed. A works with factors of its own has its own book, too.
+use super::file::read_file;
 use super::print::say;
 use headers::book::NO_ROWS;
 use headers::house::MOST_BYTES;
 use little::part::part;
 use numerals::bytes::lay;
 use report::{MOST_BUNDLE_TEXT, Written, report, report_bundle, report_text};
+use std::rt::Files;
+use std::str;
 
 // What the desk is given beside the books and the fugitive table.
-#[derive(Clone, Copy)]
+#[derive(Drop)]
 enum Given {
     Sheet,
     Bundle,
@@ -30,11 +33,11 @@ fn report_given(
     }
 }
 
-fn answer(given: Given, own: &[u8], book: &[u8], fugitive: &[u8], file: &[u8]) {
+fn answer(rt: &impl Print, given: Given, own: &[u8], book: &[u8], fugitive: &[u8], file: &[u8]) {
     let mut text = [0u8; MOST_BUNDLE_TEXT];
     let written = report_given(given, own, book, fugitive, file, &mut text);
     if let Written::Bytes(bytes) = written {
-        say(part(&text, 0, bytes));
+        say(rt, part(&text, 0, bytes));
     }
 }
 
@@ -55,18 +58,18 @@ fn path_of(folder: &[u8], file: &[u8], path: &mut [u8]) -> usize {
 }
 
 // A file that is not there is read as no bytes.
-fn load(folder: &[u8], file: &[u8], room: &mut [u8]) -> usize {
+fn load(rt: &impl Files, folder: &[u8], file: &[u8], room: &mut [u8]) -> usize {
     let mut path = [0u8; 2 * LONGEST_NAME + 1];
     let path_bytes = path_of(folder, file, &mut path);
-    let opened = os::open_read(part(&path, 0, path_bytes));
-    let bytes = io::read_full(opened, room);
-    libc::close(opened);
-    bytes
+    match str::from_utf8(part(&path, 0, path_bytes)) {
+        Ok(path) => read_file(rt, path, room),
+        Err(_) => 0,
+    }
 }
 
 // A works without a book of its own lends one without rows.
-fn load_own(folder: &[u8], room: &mut [u8]) -> usize {
-    let bytes = load(folder, b"own.bin", room);
+fn load_own(rt: &impl Files, folder: &[u8], room: &mut [u8]) -> usize {
+    let bytes = load(rt, folder, b"own.bin", room);
     if bytes == 0 {
         lay(room, 0, &NO_ROWS)
     } else {
@@ -74,26 +77,27 @@ fn load_own(folder: &[u8], room: &mut [u8]) -> usize {
     }
 }
 
-fn name(folder: &[u8], file: &[u8]) {
-    say(b"run ");
-    say(folder);
-    say(b"/");
-    say(file);
-    say(b"\n");
+fn name(rt: &impl Print, folder: &[u8], file: &[u8]) {
+    say(rt, b"run ");
+    say(rt, folder);
+    say(rt, b"/");
+    say(rt, file);
+    say(rt, b"\n");
 }
 
 // Prints the path of what is given, and what the desk answers.
-fn run_given(given: Given, folder: &[u8], file: &[u8]) {
+fn run_given(rt: &(impl Files + Print), given: Given, folder: &[u8], file: &[u8]) {
     let mut own = [0u8; MOST_BYTES];
     let mut book = [0u8; MOST_BYTES];
     let mut fugitive = [0u8; MOST_BYTES];
     let mut content = [0u8; MOST_BYTES];
-    let own_bytes = load_own(folder, &mut own);
-    let book_bytes = load(folder, b"book.bin", &mut book);
-    let fugitive_bytes = load(folder, b"fugitive.bin", &mut fugitive);
-    let content_bytes = load(folder, file, &mut content);
-    name(folder, file);
+    let own_bytes = load_own(rt, folder, &mut own);
+    let book_bytes = load(rt, folder, b"book.bin", &mut book);
+    let fugitive_bytes = load(rt, folder, b"fugitive.bin", &mut fugitive);
+    let content_bytes = load(rt, folder, file, &mut content);
+    name(rt, folder, file);
     answer(
+        rt,
         given,
         part(&own, 0, own_bytes),
         part(&book, 0, book_bytes),
@@ -102,58 +106,58 @@ fn run_given(given: Given, folder: &[u8], file: &[u8]) {
     );
 }
 
-fn run(folder: &[u8]) {
-    run_given(Given::Sheet, folder, b"sheet.bin");
+fn run(rt: &(impl Files + Print), folder: &[u8]) {
+    run_given(rt, Given::Sheet, folder, b"sheet.bin");
 }
 
-fn run_bundle(folder: &[u8]) {
-    run_given(Given::Bundle, folder, b"bundle.bin");
+fn run_bundle(rt: &(impl Files + Print), folder: &[u8]) {
+    run_given(rt, Given::Bundle, folder, b"bundle.bin");
 }
 
-fn run_typed(folder: &[u8]) {
-    run_given(Given::Typed, folder, b"sheet.csv");
+fn run_typed(rt: &(impl Files + Print), folder: &[u8]) {
+    run_given(rt, Given::Typed, folder, b"sheet.csv");
 }
 
-pub(crate) fn runs() {
-    run(b"document-000");
-    run(b"document-002");
-    run(b"energy");
-    run(b"two-halves");
+pub(crate) fn runs(rt: &(impl Files + Print)) {
+    run(rt, b"document-000");
+    run(rt, b"document-002");
+    run(rt, b"energy");
+    run(rt, b"two-halves");
 }
 
 // At the limits, and over each of them.
-pub(crate) fn limit_runs() {
-    run(b"limits");
-    run(b"over-hours");
-    run(b"over-kilograms");
-    run(b"over-production");
-    run(b"over-rating");
+pub(crate) fn limit_runs(rt: &(impl Files + Print)) {
+    run(rt, b"limits");
+    run(rt, b"over-hours");
+    run(rt, b"over-kilograms");
+    run(rt, b"over-production");
+    run(rt, b"over-rating");
 }
 
-pub(crate) fn fugitive_runs() {
-    run(b"fugitive");
-    run(b"fugitive-no-entry");
-    run(b"fugitive-in-water");
-    run(b"fugitive-bad-table");
+pub(crate) fn fugitive_runs(rt: &(impl Files + Print)) {
+    run(rt, b"fugitive");
+    run(rt, b"fugitive-no-entry");
+    run(rt, b"fugitive-in-water");
+    run(rt, b"fugitive-bad-table");
 }
 
-pub(crate) fn own_runs() {
-    run(b"own-kiln");
-    run(b"own-neither");
-    run(b"own-bad-book");
+pub(crate) fn own_runs(rt: &(impl Files + Print)) {
+    run(rt, b"own-kiln");
+    run(rt, b"own-neither");
+    run(rt, b"own-bad-book");
 }
 
-pub(crate) fn bundle_runs() {
-    run_bundle(b"bundle-works");
-    run_bundle(b"bundle-none");
-    run_bundle(b"bundle-short-run");
-    run_bundle(b"bundle-bad-book");
-    run_bundle(b"bundle-over-room");
-    run_bundle(b"bundle-overlapping");
+pub(crate) fn bundle_runs(rt: &(impl Files + Print)) {
+    run_bundle(rt, b"bundle-works");
+    run_bundle(rt, b"bundle-none");
+    run_bundle(rt, b"bundle-short-run");
+    run_bundle(rt, b"bundle-bad-book");
+    run_bundle(rt, b"bundle-over-room");
+    run_bundle(rt, b"bundle-overlapping");
 }
 
-pub(crate) fn typed_runs() {
-    run_typed(b"typed-foundry");
-    run_typed(b"typed-hours-over");
-    run_typed(b"typed-line-feeds");
+pub(crate) fn typed_runs(rt: &(impl Files + Print)) {
+    run_typed(rt, b"typed-foundry");
+    run_typed(rt, b"typed-hours-over");
+    run_typed(rt, b"typed-line-feeds");
 }

@@ -21,29 +21,29 @@ const SUM_WRAPPED: [u64; CELLS] = [
     MOST, 0, 0, MOST, 0, MOST, 0, 0, MOST, 0, WRAPPED, 0, 0, WRAPPED, 0,
 ];
 
-fn table(cells: &[u64]) {
+fn table(rt: &impl Print, cells: &[u64]) {
     let mut i = 0;
     while i < cells.len() {
-        number(cells[i]);
+        number(rt, cells[i]);
         i += 1;
     }
-    say(b"\n");
+    say(rt, b"\n");
 }
 
-fn count(unit: u64, cells: &[u64]) {
+fn count(rt: &impl Print, unit: u64, cells: &[u64]) {
     match settling_steps(unit, cells) {
-        CountOutcome::Changes(steps) => number(steps as u64),
-        CountOutcome::TableOff => say(b" refused"),
+        CountOutcome::Changes(steps) => number(rt, steps as u64),
+        CountOutcome::TableOff => say(rt, b" refused"),
     }
-    say(b"\n");
+    say(rt, b"\n");
 }
 
 // The answer to one step, as one number, and the table after it.
-fn step(unit: u64, cells: &[u64], next: &mut [u64]) -> bool {
+fn step(rt: &impl Print, unit: u64, cells: &[u64], next: &mut [u64]) -> bool {
     let outcome = settling_step(unit, cells, next);
-    say(b"step");
-    number(outcome.code());
-    table(next);
+    say(rt, b"step");
+    number(rt, outcome.code());
+    table(rt, next);
     match outcome {
         StepOutcome::Changed => true,
         StepOutcome::Whole => false,
@@ -53,15 +53,15 @@ fn step(unit: u64, cells: &[u64], next: &mut [u64]) -> bool {
 }
 
 // The count, and every step up to the one that changes nothing.
-fn settled(name: &[u8], unit: u64, cells: [u64; CELLS]) {
-    say(b"settled ");
-    say(name);
-    count(unit, &cells);
+fn settled(rt: &impl Print, name: &[u8], unit: u64, cells: [u64; CELLS]) {
+    say(rt, b"settled ");
+    say(rt, name);
+    count(rt, unit, &cells);
     let mut now = cells;
     let mut next = [7u64; CELLS];
     let mut left = CELLS;
     while 0 < left {
-        if step(unit, &now, &mut next) {
+        if step(rt, unit, &now, &mut next) {
             now = next;
             left -= 1;
         } else {
@@ -71,12 +71,12 @@ fn settled(name: &[u8], unit: u64, cells: [u64; CELLS]) {
 }
 
 // One cell too few is lent.
-fn short(name: &[u8], unit: u64, cells: [u64; CELLS]) {
+fn short(rt: &impl Print, name: &[u8], unit: u64, cells: [u64; CELLS]) {
     let mut next = [7u64; CELLS - 1];
-    say(b"short ");
-    say(name);
-    say(b"\n");
-    step(unit, &cells, &mut next);
+    say(rt, b"short ");
+    say(rt, name);
+    say(rt, b"\n");
+    step(rt, unit, &cells, &mut next);
 }
 
 // One unit more in the last cell.
@@ -86,12 +86,12 @@ fn sum_off() -> [u64; CELLS] {
     cells
 }
 
-pub(crate) fn settlings() {
-    settled(b"picture", 1, PICTURE);
-    settled(b"picture in kilograms", 2, PICTURE);
-    settled(b"a sum off by one", 1, sum_off());
-    settled(b"sums modulo 2^64", 1, SUM_WRAPPED);
-    settled(b"no such unit", 4, PICTURE);
-    short(b"picture", 1, PICTURE);
-    short(b"a sum off by one", 1, sum_off());
+pub(crate) fn settlings(rt: &impl Print) {
+    settled(rt, b"picture", 1, PICTURE);
+    settled(rt, b"picture in kilograms", 2, PICTURE);
+    settled(rt, b"a sum off by one", 1, sum_off());
+    settled(rt, b"sums modulo 2^64", 1, SUM_WRAPPED);
+    settled(rt, b"no such unit", 4, PICTURE);
+    short(rt, b"picture", 1, PICTURE);
+    short(rt, b"a sum off by one", 1, sum_off());
 }

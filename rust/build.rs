@@ -30,7 +30,7 @@ fn give_up(places: &[PathBuf]) -> ! {
     for place in places {
         eprintln!("checkraven: no {} in {}", LIBRARY, place.display());
     }
-    eprintln!("checkraven: run `rt staticlib checkraven_c` in the folder of crates.txt,");
+    eprintln!("checkraven: run `./make-library` in the folder of crates.txt,");
     eprintln!("checkraven: or name the folder that has the library in {FOLDER}");
     process::exit(1);
 }

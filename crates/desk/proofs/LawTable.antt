@@ -4,6 +4,8 @@ use mathlib.Core.Path.{◌≡◌, refl}
 use mathlib.Core.Bool.{true}
 use mathlib.Core.List.{List, [], ◌∷◌, ◌++◌, append_assoc}
 use mathlib.Core.Logic.{⊎_elim, ◌≢◌}
+use denote.Enum.Declared.{tag_of}
+use types.Run.{OneOf}
 use native.Mathlib.Numerals.{add-one}
 use native.Mathlib.Nat.{not-suc-le-zero, le_of_suc-le-suc, eq-or-lt_of_le}
 use native.Mathlib.Omega.{arith}
@@ -26,6 +28,7 @@ use Rattle.desk.specs.Inner.{Fitting, files_told, Right, Ready, Fillable, with_r
 use Rattle.answers.specs.declared.answer.LineFault.{LineFault}
 use Rattle.answers.specs.declared.answer.Outcome.{Outcome}
 use Rattle.answers.specs.declared.answer.Outcome.TheVariants.{Accepted, RefusedFile, RefusedLine}
+use Rattle.answers.specs.contracts.answer.Outcome.{the_type}
 use Rattle.desk.specs.declared.account.LineOutcome.{LineOutcome}
 use Rattle.desk.specs.declared.account.LineOutcome.TheVariants.{Given, Refusal}
 use Rattle.desk.specs.declared.cells.TableRow.{TableRow}
@@ -33,6 +36,12 @@ use Rattle.desk.specs.declared.tally.Tally.{Tally}
 use Rattle.desk.proofs.LawAccount.{Balances, line_most}
 use Rattle.desk.proofs.LawBook.{line_in_lem}
 use Rattle.desk.proofs.LawColumns.{zip, zip_at, Balanced, balanced_cell, balanced_more}
+
+-- an outcome whose case is not the first is a refusal
+pub refusal : (r : Outcome) → OneOf (1 ∷ 2 ∷ []) (tag_of the_type r) → r ≢ Accepted
+refusal Accepted h e = ⊎_elim (λ (z : ◌≡◌ {A = ℕ} 0 1). clash z) (λ (z : ◌≡◌ {A = ℕ} 0 2). omega arith) h
+refusal (RefusedFile k) h e = clash (cc)
+refusal (RefusedLine k line) h e = clash (cc)
 
 pub line_refused : {k : LineFault} {line : ℕ} → RefusedLine k line ≢ Accepted
 line_refused e = clash (cc)

@@ -2,13 +2,16 @@
 use Prim.Native.Nat.{ℕ, suc, ◌+◌, ◌*◌, ◌-◌, ◌≤◌, ◌<◌}
 use mathlib.Core.Path.{◌≡◌, refl, sym, ap, ◌∙◌}
 use mathlib.Core.List.{List, [], ◌∷◌}
-use mathlib.Core.Logic.{⊎_elim}
+use mathlib.Core.Logic.{⊎_elim, ◌≢◌}
+use denote.Enum.Declared.{tag_of}
+use types.Run.{OneOf}
 use native.Mathlib.Omega.{arith}
 use native.Mathlib.Nat.{suc-mul, mul-le-mul_right, eq-or-lt_of_le}
 use native.Mathlib.Numerals.{add-one}
 use lib.ListN.{length, take, drop, set, length-drop, length-set}
 use lib.Seq.{drop_at, drop-drop, set_split, length-take-le, take-set-le, drop-set-lt, get_or-take, get_or-drop}
 use borrow.Rule.Slice.PartMut.{put_mid, take_put, drop_put}
+use Rattle.search.proofs.LawTest.{clash}
 use Rattle.little.specs.Part.{part_of}
 use Rattle.settle.specs.Shown.{at}
 use Rattle.little.proofs.LawPart.{put_read, part_kept}
@@ -16,7 +19,8 @@ use Rattle.answers.specs.Answer.{code_of}
 use Rattle.answers.specs.declared.answer.Outcome.{Outcome}
 use Rattle.answers.specs.declared.answer.Outcome.TheVariants.{Accepted}
 use Rattle.answers.specs.declared.bundle.BundleOutcome.{BundleOutcome}
-use Rattle.answers.specs.declared.bundle.BundleOutcome.TheVariants.{Taken}
+use Rattle.answers.specs.declared.bundle.BundleOutcome.TheVariants.{Taken, BundleMalformed, ResultTooShort}
+use Rattle.answers.specs.contracts.bundle.BundleOutcome.{the_type}
 use Rattle.bundle.specs.Bundle.{sheet_count, cells_per_sheet, sheet_of}
 use Rattle.desk.specs.Lent.{Sources, lent}
 use Rattle.desk.specs.Demands.{Demand1, Demand2, Demand3}
@@ -24,6 +28,12 @@ use Rattle.desk.specs.Declare.{Declared}
 use Rattle.desk.proofs.LawOnce.{declared_once}
 use Rattle.desk.specs.Works.{Results, results, run_of, AsAlone, FirstSheets, BundleDeclared}
 use Rattle.desk.specs.InnerWorks.{Around, SheetDone}
+
+-- a whole outcome whose case is not the first is a refusal
+pub not_taken : (r : BundleOutcome) → OneOf (1 ∷ 2 ∷ []) (tag_of the_type r) → r ≢ Taken
+not_taken Taken h e = ⊎_elim (λ (z : ◌≡◌ {A = ℕ} 0 1). clash z) (λ (z : ◌≡◌ {A = ℕ} 0 2). omega arith) h
+not_taken BundleMalformed h e = clash (cc)
+not_taken ResultTooShort h e = clash (cc)
 
 -- ---- one part is written
 

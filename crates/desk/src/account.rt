@@ -149,6 +149,7 @@ fn by_books(own: &[u8], b: &[u8], f: &[u8], line: Line) -> LineOutcome
     }
 }
 
+#[tactic(auto, unfolding(crate::specs::Account::account_of, crate::specs::Account::account_in))]
 fn account(own: &[u8], b: &[u8], f: &[u8], line: Line) -> LineOutcome
     requires { Right (sources own.now b.now f.now) }
     ensures { result ≡ account_of (sources own.now b.now f.now) line }

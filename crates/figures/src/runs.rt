@@ -1,5 +1,8 @@
 // The desk over the folders of data/: each has a book, a fugitive table and a sheet, which may be typed, or a bundle, and the listing that
 // `make-files` made them from, or what was changed. A works with factors of its own has its own book, too.
+ghost use Rattle.std.specs.Prelude.{◌≡◌, length};
+ghost use Rattle.report.specs.Bundle.{most_bundle_text};
+
 use super::file::read_file;
 use super::print::say;
 use headers::book::NO_ROWS;
@@ -33,8 +36,15 @@ fn report_given(
     }
 }
 
+// Room for a bundle's report. Only its length is told, so that nothing else that is proved has to look at so many zeros.
+fn bundle_room() -> [u8; MOST_BUNDLE_TEXT]
+    ensures { most_bundle_text ≡ length result }
+{
+    [0; MOST_BUNDLE_TEXT]
+}
+
 fn answer(rt: &impl Print, given: Given, own: &[u8], book: &[u8], fugitive: &[u8], file: &[u8]) {
-    let mut text = [0u8; MOST_BUNDLE_TEXT];
+    let mut text = bundle_room();
     let written = report_given(given, own, book, fugitive, file, &mut text);
     if let Written::Bytes(bytes) = written {
         say(rt, part(&text, 0, bytes));

@@ -1,6 +1,8 @@
 -- Rules 4, 5 and 15 by their own tests; what they leave is what the rest of the account asks.
-use borrow.Author.Tests.{lt-ltb, le-ltb}
+use native.Mathlib.Omega.{arith}
+use borrow.Author.Tests.{le-ltb}
 use mathlib.Core.Path.{sym, ◌∙◌}
+use Rattle.amounts.specs.Line.{whole_share}
 use Rattle.desk.specs.Account.{account_in, account_of}
 use Rattle.desk.proofs.LawAccount.{moderate}
 use Rattle.desk.proofs.account.account.Goals as goal
@@ -9,10 +11,6 @@ pub returns-then-excessive : goal.returns-then-excessive
 unfolding account_of account_in
 returns-then-excessive c = rw c.if-excessive.true
 
-pub returns-then-line-gt-WHOLE_SHARE : goal.returns-then-line-gt-WHOLE_SHARE
-unfolding account_of account_in
-returns-then-line-gt-WHOLE_SHARE c = rw (c.if-excessive.false, lt-ltb _ _ c.if-line-gt-WHOLE_SHARE.true)
-
 pub by_books-requires : goal.by_books-requires
 by_books-requires c =
     record {
@@ -20,18 +18,18 @@ by_books-requires c =
       admitted = record {
         fugitive = c.requires.fugitive;
         activity = moderate _ c.if-excessive.false;
-        reuse = c.if-line-gt-WHOLE_SHARE.false;
+        reuse = omega arith;
         graded = sym c.is_bad.ensures ∙ c.if-is_bad.false;
       };
     }
 
 pub returns-then-is_bad : goal.returns-then-is_bad
 unfolding account_of account_in
-returns-then-is_bad c = rw (c.if-excessive.false, le-ltb _ _ c.if-line-gt-WHOLE_SHARE.false, sym c.is_bad.ensures ∙ c.if-is_bad.true)
+returns-then-is_bad c = rw (c.if-excessive.false, le-ltb whole_share c.args.line.reuse (omega arith), sym c.is_bad.ensures ∙ c.if-is_bad.true)
 
 pub returns : goal.returns
 unfolding account_of account_in
 returns c =
     let small = c.if-excessive.false in
-    let reuse = le-ltb _ _ c.if-line-gt-WHOLE_SHARE.false in
+    let reuse = le-ltb whole_share c.args.line.reuse (omega arith) in
     rw (small, reuse, sym c.is_bad.ensures ∙ c.if-is_bad.false) c.by_books.ensures

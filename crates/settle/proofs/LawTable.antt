@@ -133,10 +133,26 @@ good_is {g} {t} h =
 pub last_row : (K : ℕ) {n : ℕ} → 0 < n → (n - 1) * K + K ≡ n * K
 last_row K {n} h = let e : n ≡ suc (n - 1) = omega arith in omega (arith, ap (λ (k : ℕ). k * K) e)
 
+-- it has a first cell
+pub last_row_begins : (K : ℕ) {n : ℕ} → 0 < K → 0 < n → (n - 1) * K + 1 ≤ n * K
+last_row_begins K w h = omega (arith, last_row K h)
+
+-- a row ends where the table does, at the latest
+pub row_ends : (K : ℕ) {i n : ℕ} → i < n → i * K + K ≤ n * K
+row_ends K l = omega (arith, mul-le-mul_right K l)
+
+-- a place of a line is in the list
+pub on_line : {t : List ℕ} {b s m k i : ℕ} → Line t b s m → k < m → i ≡ b + k * s → i < length t
+on_line {k = k} line l e = rw e (line.cells k l)
+
 module _ {K n : ℕ} {t : List ℕ} (f : Frame K n t) where
+  -- the first cell of row i, in a list as long as the table
+  pub row_begins : (i : ℕ) (s : List ℕ) → length s ≡ length t → i < n → i * K < length s
+  row_begins i s e l = omega (arith, row_ends K l, f.size, f.small.wide)
+
   pub row_rest : {i : ℕ} → i < n → Line t (i * K + 1) 1 (K - 1)
   row_rest {i} l =
-      let d : i * K + K ≤ n * K = omega (arith, mul-le-mul_right K l) in
+      let d = row_ends K l in
       let w = f.small.wide in
       record { cells = λ k z. omega (arith, f.size); small = omega (arith, f.small.few) }
 

@@ -1,22 +1,17 @@
-use Prim.Native.Nat.{◌+◌, ◌-◌, ◌*◌, ◌≤◌, ◌<◌}
-use native.Mathlib.Nat.{mul-le-mul_right, zero-mul}
+use Prim.Native.Nat.{◌-◌, ◌*◌, ◌≤◌}
+use native.Mathlib.Nat.{zero-mul}
 use native.Mathlib.Omega.{arith}
-use lib.ListN.{length}
 use Rattle.settle.specs.Shown.{at}
 use Rattle.settle.specs.Table.{limit}
 use Rattle.settle.proofs.LawCells.{written_none}
 use Rattle.settle.proofs.LawMirror.{written_row, written_rows}
+use Rattle.settle.proofs.LawTable.{row_begins}
 use Rattle.settle.proofs.cells.mirror_above.Goals as goal
-
--- the first cell of a turn's row; it is in the table, and not above the limit
 
 pub loop-r-preserved : goal.loop-r-preserved
 loop-r-preserved c =
-    let inside : (c.loop-r.r * c.args.k) < length c.loop-r.t = let f = c.requires.frame in
-    let row : c.loop-r.r + 1 ≤ c.args.n = omega (arith, c.loop-r-test.true) in
-    omega (arith, mul-le-mul_right c.args.k row, f.size, f.small.wide, c.loop-r.invariant.1.size) in
     let h = c.requires.frame.small in
-    (omega arith, written_row _ _ h.wide _ c.loop-r.invariant.1 (omega (arith, c.loop-r-test.true)) inside)
+    (omega arith, written_row _ _ h.wide _ c.loop-r.invariant.1 (omega (arith, c.loop-r-test.true)) (row_begins c.requires.frame c.loop-r.r c.loop-r.t c.loop-r.invariant.1.size (omega arith)))
 
 pub returns : goal.returns
 returns c =
@@ -31,25 +26,13 @@ pub overflow_sub-n : goal.overflow_sub-n
 overflow_sub-n c = omega (arith, c.requires.frame.small.high)
 
 pub overflow_mul-i : goal.overflow_mul-i
-overflow_mul-i c =
-    let inside : (c.loop-r.r * c.args.k) < length c.loop-r.t = let f = c.requires.frame in
-    let row : c.loop-r.r + 1 ≤ c.args.n = omega (arith, c.loop-r-test.true) in
-    omega (arith, mul-le-mul_right c.args.k row, f.size, f.small.wide, c.loop-r.invariant.1.size) in
-    omega (arith, inside, c.requires.frame.small.few)
+overflow_mul-i c = omega (arith, row_begins c.requires.frame c.loop-r.r c.loop-r.t c.loop-r.invariant.1.size (omega arith), c.requires.frame.small.few)
 
 pub offset_bounds-t-i : goal.offset_bounds-t-i
-offset_bounds-t-i c =
-    let inside : (c.loop-r.r * c.args.k) < length c.loop-r.t = let f = c.requires.frame in
-    let row : c.loop-r.r + 1 ≤ c.args.n = omega (arith, c.loop-r-test.true) in
-    omega (arith, mul-le-mul_right c.args.k row, f.size, f.small.wide, c.loop-r.invariant.1.size) in
-    omega (arith, inside, c.requires.frame.small.few)
+offset_bounds-t-i c = omega (arith, row_begins c.requires.frame c.loop-r.r c.loop-r.t c.loop-r.invariant.1.size (omega arith), c.requires.frame.small.few)
 
 pub bounds-t-i : goal.bounds-t-i
-bounds-t-i c =
-    let inside : (c.loop-r.r * c.args.k) < length c.loop-r.t = let f = c.requires.frame in
-    let row : c.loop-r.r + 1 ≤ c.args.n = omega (arith, c.loop-r-test.true) in
-    omega (arith, mul-le-mul_right c.args.k row, f.size, f.small.wide, c.loop-r.invariant.1.size) in
-    inside
+bounds-t-i c = row_begins c.requires.frame c.loop-r.r c.loop-r.t c.loop-r.invariant.1.size (omega arith)
 
 pub overflow_sub-t : goal.overflow_sub-t
 overflow_sub-t c =
@@ -57,18 +40,10 @@ overflow_sub-t c =
     omega (arith, most)
 
 pub offset_bounds-t-i-in-loop-r : goal.offset_bounds-t-i-in-loop-r
-offset_bounds-t-i-in-loop-r c =
-    let inside : (c.loop-r.r * c.args.k) < length c.loop-r.t = let f = c.requires.frame in
-    let row : c.loop-r.r + 1 ≤ c.args.n = omega (arith, c.loop-r-test.true) in
-    omega (arith, mul-le-mul_right c.args.k row, f.size, f.small.wide, c.loop-r.invariant.1.size) in
-    omega (arith, inside, c.requires.frame.small.few)
+offset_bounds-t-i-in-loop-r c = omega (arith, row_begins c.requires.frame c.loop-r.r c.loop-r.t c.loop-r.invariant.1.size (omega arith), c.requires.frame.small.few)
 
 pub bounds-t-i-in-loop-r : goal.bounds-t-i-in-loop-r
-bounds-t-i-in-loop-r c =
-    let inside : (c.loop-r.r * c.args.k) < length c.loop-r.t = let f = c.requires.frame in
-    let row : c.loop-r.r + 1 ≤ c.args.n = omega (arith, c.loop-r-test.true) in
-    omega (arith, mul-le-mul_right c.args.k row, f.size, f.small.wide, c.loop-r.invariant.1.size) in
-    inside
+bounds-t-i-in-loop-r c = row_begins c.requires.frame c.loop-r.r c.loop-r.t c.loop-r.invariant.1.size (omega arith)
 
 pub overflow_add-r : goal.overflow_add-r
 overflow_add-r c = omega arith

@@ -1,15 +1,13 @@
 use mathlib.Core.Path.{◌≡◌, refl, sym, ap, ◌∙◌}
 use mathlib.Core.Logic.{◌≢◌, inl, inr, ◌⊎◌}
-use Prim.Native.Nat.{ℕ, ◌+◌, ◌*◌, ◌%◌, ◌<◌}
+use Prim.Native.Nat.{ℕ, ◌+◌, ◌*◌, ◌%◌}
 use native.Mathlib.Nat.{mul-le-mul_right}
 use native.Mathlib.Omega.{arith}
-use lib.ListN.{length}
 use Rattle.settle.specs.Shown.{at, Whole}
+use Rattle.settle.proofs.LawTable.{on_line}
 use Rattle.settle.proofs.LawLine.{seek_skip, seek_here, seek_end, seek_jump}
 use Rattle.settle.proofs.round.seek_by.Goals as goal
 use Rattle.settle.proofs.round.seek_by.Goals.{then-k-q+else-t-i-ne0, else-k-q}
-
--- the cell of a turn is in the list
 
 pub loop-k-init : goal.loop-k-init
 loop-k-init c = (c.requires.from, refl, seek_jump _ _ _ _ _ _ _ c.requires.from c.requires.passed)
@@ -48,14 +46,10 @@ pub overflow_add-i : goal.overflow_add-i
 overflow_add-i c = omega (arith, c.requires.line.small, mul-le-mul_right c.args.s c.requires.from)
 
 pub offset_bounds-t-i : goal.offset_bounds-t-i
-offset_bounds-t-i c =
-    let inside : c.loop-k.k < c.args.m → c.loop-k.i < length c.args.t.now = λ h. omega (arith, c.requires.line.cells c.loop-k.k h, c.loop-k.invariant.1) in
-    omega (arith, inside c.loop-k-test.true)
+offset_bounds-t-i c = omega (arith, on_line c.requires.line c.loop-k-test.true c.loop-k.invariant.1)
 
 pub bounds-t-i : goal.bounds-t-i
-bounds-t-i c =
-    let inside : c.loop-k.k < c.args.m → c.loop-k.i < length c.args.t.now = λ h. omega (arith, c.requires.line.cells c.loop-k.k h, c.loop-k.invariant.1) in
-    inside c.loop-k-test.true
+bounds-t-i c = on_line c.requires.line c.loop-k-test.true c.loop-k.invariant.1
 
 pub overflow_add-k : goal.overflow_add-k
 overflow_add-k c = omega arith

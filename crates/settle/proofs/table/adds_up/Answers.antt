@@ -1,14 +1,11 @@
 use mathlib.Core.Path.{◌≡◌, ap, ◌∙◌}
-use Prim.Native.Nat.{ℕ, ◌+◌, ◌-◌, ◌<◌}
+use Prim.Native.Nat.{ℕ, ◌+◌, ◌-◌}
 use native.Mathlib.Nat.{mul-le-mul_right}
 use native.Mathlib.Omega.{arith}
 use lib.Dec.{eqb}
-use lib.ListN.{length}
 use Rattle.settle.specs.Shown.{at, sum}
-use Rattle.settle.proofs.LawTable.{adds_more, adds_over, adds_all}
+use Rattle.settle.proofs.LawTable.{adds_more, adds_over, adds_all, on_line}
 use Rattle.settle.proofs.table.adds_up.Goals as goal
-
--- the cell of a turn is in the list
 
 pub loop-j-init : goal.loop-j-init
 unfolding sum
@@ -36,21 +33,13 @@ returns c =
     adds_all _ _ _ _ _ l.invariant.2 ∙ ap (λ (k : ℕ). eqb c.args.x (sum c.args.t.now c.args.b c.args.s k)) e
 
 pub offset_bounds-t-i : goal.offset_bounds-t-i
-offset_bounds-t-i c =
-    let inside : c.loop-j.i < length c.args.t.now = omega (arith, c.requires.cells c.loop-j.j c.loop-j-test.true, c.loop-j.invariant.1) in
-    omega (arith, inside)
+offset_bounds-t-i c = omega (arith, on_line c.requires c.loop-j-test.true c.loop-j.invariant.1)
 
 pub bounds-t-i : goal.bounds-t-i
-bounds-t-i c =
-    let inside : c.loop-j.i < length c.args.t.now = omega (arith, c.requires.cells c.loop-j.j c.loop-j-test.true, c.loop-j.invariant.1) in
-    inside
+bounds-t-i c = on_line c.requires c.loop-j-test.true c.loop-j.invariant.1
 
 pub offset_bounds-t-i-in-loop-j : goal.offset_bounds-t-i-in-loop-j
-offset_bounds-t-i-in-loop-j c =
-    let inside : c.loop-j.i < length c.args.t.now = omega (arith, c.requires.cells c.loop-j.j c.loop-j-test.true, c.loop-j.invariant.1) in
-    omega (arith, inside)
+offset_bounds-t-i-in-loop-j c = omega (arith, on_line c.requires c.loop-j-test.true c.loop-j.invariant.1)
 
 pub bounds-t-i-in-loop-j : goal.bounds-t-i-in-loop-j
-bounds-t-i-in-loop-j c =
-    let inside : c.loop-j.i < length c.args.t.now = omega (arith, c.requires.cells c.loop-j.j c.loop-j-test.true, c.loop-j.invariant.1) in
-    inside
+bounds-t-i-in-loop-j c = on_line c.requires c.loop-j-test.true c.loop-j.invariant.1

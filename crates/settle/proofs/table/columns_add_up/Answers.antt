@@ -1,5 +1,4 @@
-use mathlib.Core.Path.{◌≡◌, refl}
-use Prim.Native.Nat.{◌+◌, ◌-◌, ◌*◌}
+use mathlib.Core.Path.{refl}
 use native.Mathlib.Omega.{arith}
 use Rattle.search.proofs.LawTest.{all_start, all_step, all_done}
 use Rattle.settle.specs.Table.{column_adds_up}
@@ -23,19 +22,13 @@ pub loop-j-init : goal.loop-j-init
 loop-j-init c = (omega arith, refl, all_start _)
 
 pub overflow_add-last : goal.overflow_add-last
-overflow_add-last c =
-    let below : (c.args.n - 1) * c.args.k + c.args.k ≡ c.args.n * c.args.k = last_row c.args.k c.requires.small.high in
-    omega (arith, below, c.requires.small.few, c.loop-j.invariant.1)
+overflow_add-last c = omega (arith, last_row c.args.k c.requires.small.high, c.requires.small.few, c.loop-j.invariant.1)
 
 pub offset_bounds-t-last : goal.offset_bounds-t-last
-offset_bounds-t-last c =
-    let below : (c.args.n - 1) * c.args.k + c.args.k ≡ c.args.n * c.args.k = last_row c.args.k c.requires.small.high in
-    omega (arith, below, c.requires.small.few, c.loop-j.invariant.1)
+offset_bounds-t-last c = omega (arith, last_row c.args.k c.requires.small.high, c.requires.small.few, c.loop-j.invariant.1)
 
 pub bounds-t-last : goal.bounds-t-last
-bounds-t-last c =
-    let below : (c.args.n - 1) * c.args.k + c.args.k ≡ c.args.n * c.args.k = last_row c.args.k c.requires.small.high in
-    omega (arith, below, c.requires.size, c.loop-j.invariant.1)
+bounds-t-last c = omega (arith, last_row c.args.k c.requires.small.high, c.requires.size, c.loop-j.invariant.1)
 
 pub adds_up-ok-requires : goal.adds_up-ok-requires
 adds_up-ok-requires c = column_rest c.requires c.loop-j-test.true

@@ -1,16 +1,11 @@
-use Prim.Native.Nat.{◌+◌, ◌*◌, ◌≤◌}
-use native.Mathlib.Nat.{mul-le-mul_right}
 use native.Mathlib.Omega.{arith}
 use Rattle.search.proofs.LawTest.{all_start, all_step, all_done}
 use Rattle.settle.specs.Table.{row_adds_up}
-use Rattle.settle.proofs.LawTable.{row_rest}
+use Rattle.settle.proofs.LawTable.{row_ends, row_rest}
 use Rattle.settle.proofs.table.rows_add_up.Goals as goal
 
 pub bounds-t-b : goal.bounds-t-b
-bounds-t-b c =
-    let below : c.loop-i.i * c.args.k + c.args.k ≤ c.args.n * c.args.k = omega (arith, mul-le-mul_right c.args.k c.loop-i-test.true) in
-    let h = c.requires in
-    omega (arith, below, h.size, h.small.wide)
+bounds-t-b c = omega (arith, row_ends c.args.k c.loop-i-test.true, c.requires.size, c.requires.small.wide)
 
 pub loop-i-preserved : goal.loop-i-preserved
 unfolding row_adds_up
@@ -23,19 +18,13 @@ pub loop-i-init : goal.loop-i-init
 loop-i-init c = (omega arith, all_start _)
 
 pub overflow_mul-b : goal.overflow_mul-b
-overflow_mul-b c =
-    let below : c.loop-i.i * c.args.k + c.args.k ≤ c.args.n * c.args.k = omega (arith, mul-le-mul_right c.args.k c.loop-i-test.true) in
-    omega (arith, below, c.requires.small.few)
+overflow_mul-b c = omega (arith, row_ends c.args.k c.loop-i-test.true, c.requires.small.few)
 
 pub offset_bounds-t-b : goal.offset_bounds-t-b
-offset_bounds-t-b c =
-    let below : c.loop-i.i * c.args.k + c.args.k ≤ c.args.n * c.args.k = omega (arith, mul-le-mul_right c.args.k c.loop-i-test.true) in
-    omega (arith, below, c.requires.small.few)
+offset_bounds-t-b c = omega (arith, row_ends c.args.k c.loop-i-test.true, c.requires.small.few)
 
 pub overflow_add-b : goal.overflow_add-b
-overflow_add-b c =
-    let below : c.loop-i.i * c.args.k + c.args.k ≤ c.args.n * c.args.k = omega (arith, mul-le-mul_right c.args.k c.loop-i-test.true) in
-    omega (arith, below, c.requires.small.few)
+overflow_add-b c = omega (arith, row_ends c.args.k c.loop-i-test.true, c.requires.small.few)
 
 pub adds_up-ok-requires : goal.adds_up-ok-requires
 adds_up-ok-requires c = row_rest c.requires c.loop-i-test.true

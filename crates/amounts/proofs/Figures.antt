@@ -1,7 +1,6 @@
 -- The paper's table P, as one computed test over the list of its entries. Assumes nothing.
-use Rattle.std.proofs.Common.{◌≡◌, ℕ, ◌*◌, ◌/◌, Bool, true, false, ◌&&◌, eqb, List, [], ◌∷◌, refl}
-use Rattle.amounts.specs.declared.line.Worked.{Worked}
-use Rattle.amounts.specs.declared.line.Worked.TheVariants.{Line, Bad}
+use Rattle.std.proofs.Common.{◌≡◌, ℕ, ◌*◌, ◌/◌, Bool, true, false, ◌&&◌, eqb, List, [], ◌∷◌, Option, Some, None, refl}
+use Rattle.amounts.specs.declared.line.Amounts.{Amounts}
 use Rattle.amounts.specs.Reading.{parts_per_unit}
 use Rattle.amounts.specs.Line.{removed_of, reused_of, discharged_of, admissible, worked_of}
 
@@ -19,9 +18,9 @@ record Entry : Type 0 where
 abbrev entry : (G e n d u R U D : ℕ) → Entry
 entry G e n d u R U D = record { G = G; e = e; n = n; d = d; u = u; R = R; U = U; D = D }
 
-shows : Worked → Entry → Bool
-shows (Line a) x = eqb a.generated x.G && (eqb a.removed x.R && (eqb a.reused x.U && eqb a.discharged x.D))
-shows Bad x = false
+shows : Option Amounts → Entry → Bool
+shows (Some a) x = eqb a.generated x.G && (eqb a.removed x.R && (eqb a.reused x.U && eqb a.discharged x.D))
+shows None x = false
 
 abbrev right : List Entry → Bool
 right [] = true

@@ -1,13 +1,12 @@
 -- The test goes conjunct by conjunct. R by a whole and then by d is R by both at once, since floors nest. The code's D, what is left
 -- less U rounded down, is the paper's, rounded up, because reuse and its rest make the whole. D's bounds add up what the two roundings
 -- lose, each less than a unit. Assumes nothing.
-use Rattle.std.proofs.Common.{◌≡◌, ℕ, suc, ◌+◌, ◌-◌, ◌*◌, ◌/◌, ◌%◌, ◌^◌, ◌<◌, ◌≤◌, Bool, true, false, ◌&&◌, sym, refl, ap, ◌∙◌, mul-le-mul_right, mod-lt, zero-lt-suc, mul_assoc, mul-le-mul, mul-le-mul_left, one-mul, div-add-mod', arith, ltb-true, lt-ltb, le-leb, leb-true}
+use Rattle.std.proofs.Common.{◌≡◌, ℕ, suc, ◌+◌, ◌-◌, ◌*◌, ◌/◌, ◌%◌, ◌^◌, ◌<◌, ◌≤◌, Bool, true, false, ◌&&◌, Some, sym, refl, ap, ◌∙◌, mul-le-mul_right, mod-lt, zero-lt-suc, mul_assoc, mul-le-mul, mul-le-mul_left, one-mul, div-add-mod', arith, ltb-true, lt-ltb, le-leb, leb-true}
 use native.Mathlib.Nat.{div-le_of_le-mul}
 use native.Mathlib.Nat.{div-div-eq-div-mul, mul-div-mul_right}
 use Rattle.amounts.specs.Inner.{Parts, Room}
 use Rattle.amounts.specs.Rounding.{rounded_up}
 use Rattle.amounts.specs.declared.line.Amounts.{Amounts}
-use Rattle.amounts.specs.declared.line.Worked.TheVariants.{Line}
 use Rattle.amounts.specs.Line.{whole_share, removed_of, reused_of, discharged_of, amounts_of, Admissible, admissible, worked_of}
 use Rattle.amounts.specs.Line.{◌over◌, whole, unused, manual_value, Sound}
 use Rattle.amounts.proofs.LawScaling.{is_quotient, room_most}
@@ -33,7 +32,7 @@ admitted e n d u h =
       reuse = leb-true _ _ v.1;
     }
 
-pub worked_line : (G e n d u : ℕ) (water : Bool) → Admissible e n d u → worked_of G e n d u water ≡ Line (amounts_of G e n d u water)
+pub worked_line : (G e n d u : ℕ) (water : Bool) → Admissible e n d u → worked_of G e n d u water ≡ Some (amounts_of G e n d u water)
 unfolding admissible
 worked_line G e n d u water a =
     simp (le-leb _ _ a.efficiency, le-leb _ _ a.fraction, lt-ltb _ _ a.divisor, le-leb _ _ a.size, le-leb _ _ a.reuse)

@@ -1,6 +1,6 @@
 -- t parts, divided once by the parts of a unit and rounded to a binary64, are taken as t again: the quotient is off by at most half of what
 -- its last digit counts, and that is less than a part. Assumes nothing.
-use Rattle.std.proofs.Common.{◌≡◌, ℕ, zero, suc, ◌+◌, ◌-◌, ◌*◌, ◌/◌, ◌%◌, ◌^◌, ◌<◌, ◌≤◌, Bool, true, false, cond, not, T, ltb, ◌⊎◌, pos, refl, ap, ◌∙◌, inl, inr, le_trans, mul-le-mul_right, mod-lt, eq-zero-or-pos, lt_of_mul-lt-mul_right, mul-le-mul_left, mul-lt-mul_of_pos_right, mul-pos, div-add-mod', le-div_iff_mul-le, div-mul-le_self, arith, lit<, lit≤, eqb→eq, leb→le, pow_pos, pow-add}
+use Rattle.std.proofs.Common.{◌≡◌, ℕ, zero, suc, ◌+◌, ◌-◌, ◌*◌, ◌/◌, ◌%◌, ◌^◌, ◌<◌, ◌≤◌, Bool, true, false, cond, not, T, ltb, ◌⊎◌, pos, Ok, refl, ap, ◌∙◌, inl, inr, le_trans, mul-le-mul_right, mod-lt, eq-zero-or-pos, lt_of_mul-lt-mul_right, mul-le-mul_left, mul-lt-mul_of_pos_right, mul-pos, div-add-mod', le-div_iff_mul-le, div-mul-le_self, arith, lit<, lit≤, eqb→eq, leb→le, pow_pos, pow-add}
 use Prim.Native.Nat.{compare, Ordering}
 use native.Mathlib.Nat.{lt-div-mul-add}
 use lib.Dec.{is_le, compare_is_eq, nleb→lt}
@@ -12,7 +12,6 @@ use lib.Ieee.Fits.{down_pos, div-fits, round_is}
 use lib.Ieee.Nearest.{closest}
 use lib.Ieee.Scale.{grid, overflow, round_val, round_same}
 use lib.Ieee.Back.{round_whole}
-use Rattle.amounts.specs.declared.reading.Taken.TheVariants.{Is}
 use Rattle.amounts.specs.Reading.{parts_per_unit, limited, taken_of, of_parts, parts_bits}
 use Rattle.amounts.proofs.LawReading.{by_value_lem, within_limit}
 
@@ -127,7 +126,7 @@ whole_float t h = round_whole binary64 false t h
 
 -- ---- taken again
 
-rounded_back : (most t : ℕ) → t < 2 ^ 52 → t ≤ parts_per_unit * most → taken_of parts_per_unit most (round binary64 false t parts_per_unit) ≡ Is t
+rounded_back : (most t : ℕ) → t < 2 ^ 52 → t ≤ parts_per_unit * most → taken_of parts_per_unit most (round binary64 false t parts_per_unit) ≡ Ok t
 rounded_back most t few h =
     let n = t * 2 ^ 1074 in
     let k = size (n / parts_per_unit) - 53 in
@@ -144,7 +143,7 @@ rounded_back most t few h =
     below : (t : ℕ) → t < 2 ^ 52 → 2 * t + 1 ≤ 2 ^ 53
     below t h = omega arith
 
-pub parts_back : (most t : ℕ) → most < 2 ^ 32 → t ≤ parts_per_unit * most → taken_of parts_per_unit most (of_bits binary64 (parts_bits t)) ≡ Is t
+pub parts_back : (most t : ℕ) → most < 2 ^ 32 → t ≤ parts_per_unit * most → taken_of parts_per_unit most (of_bits binary64 (parts_bits t)) ≡ Ok t
 unfolding parts_bits of_parts
 parts_back most t h l =
     let few : t < 2 ^ 52 = omega arith in

@@ -1,7 +1,6 @@
 -- Rules near the paper's: each differs from it at a small case, which the statement names and which is computed. Assumes nothing.
-use Rattle.std.proofs.Common.{◌≡◌, ℕ, ◌-◌, ◌*◌, ◌/◌, true, pos, arith}
+use Rattle.std.proofs.Common.{◌≡◌, ℕ, ◌-◌, ◌*◌, ◌/◌, true, pos, Ok, arith}
 use lib.Ieee.{Float, binary64, of_bits, to_bits, of_int, div, round}
-use Rattle.amounts.specs.declared.reading.Taken.TheVariants.{Is}
 use Rattle.amounts.specs.Rounding.{rounded_down, rounded_up}
 use Rattle.amounts.specs.Line.{whole_share, removed_of, reused_of, discharged_of, amounts_of, ◌over◌, whole, manual_value, Sound}
 use Rattle.amounts.specs.Reading.{taken_of, of_parts, parts_bits}
@@ -27,7 +26,7 @@ unfolding removed_of
 k_to_a_percent e = omega (arith, e)
 
 -- a tie down: 0.5 where a unit has one part
-tie_down : taken_of 1 1 (of_bits binary64 0x3fe0_0000_0000_0000) ≡ Is 0 → ⊥
+tie_down : taken_of 1 1 (of_bits binary64 0x3fe0_0000_0000_0000) ≡ Ok 0 → ⊥
 unfolding taken_of of_bits
 tie_down e = let z : ◌≡◌ {A = ℕ} 0 1 = cc in omega arith
 

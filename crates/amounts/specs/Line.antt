@@ -1,10 +1,8 @@
 -- "From a line to its amounts": G is generated, e the efficiency and u the reuse in shares of whole_share, k the fraction n over d.
 -- Assumes nothing.
-use Rattle.std.specs.Prelude.{◌≡◌, ℕ, ◌+◌, ◌-◌, ◌*◌, ◌<◌, ◌≤◌, Bool, cond, ◌&&◌, nat_le, nat_lt}
+use Rattle.std.specs.Prelude.{◌≡◌, ℕ, ◌+◌, ◌-◌, ◌*◌, ◌<◌, ◌≤◌, Bool, cond, ◌&&◌, nat_le, nat_lt, Option, Some, None}
 use Rattle.amounts.specs.Rounding.{rounded_down, rounded_up}
 use Rattle.amounts.specs.declared.line.Amounts.{Amounts}
-use Rattle.amounts.specs.declared.line.Worked.{Worked}
-use Rattle.amounts.specs.declared.line.Worked.TheVariants.{Line, Bad}
 
 -- tenths of a percent in a whole
 abbrev pub whole_share : ℕ
@@ -47,8 +45,8 @@ pub record Admissible (e n d u : ℕ) : Type 0 where
 unfoldable pub admissible : (e n d u : ℕ) → Bool
 admissible e n d u = (((nat_le e whole_share && nat_le n d) && nat_lt 0 d) && nat_le d most_divisor) && nat_le u whole_share
 
-abbrev pub worked_of : (G e n d u : ℕ) (water : Bool) → Worked
-worked_of G e n d u water = cond (admissible e n d u) (Line (amounts_of G e n d u water)) Bad
+abbrev pub worked_of : (G e n d u : ℕ) (water : Bool) → Option Amounts
+worked_of G e n d u water = cond (admissible e n d u) (Some (amounts_of G e n d u water)) None
 
 -- ---- what is owed of the amounts
 

@@ -1,9 +1,9 @@
 -- "Reading a binary64 x": as a whole number of parts of its unit, under a limit. Assumes nothing.
-use Rattle.std.specs.Prelude.{ℕ, ◌+◌, ◌*◌, ◌/◌, ◌<◌, ◌≤◌, cond, ◌&&◌, ℤ, pos, nat_le, nat_lt, to_bits, Float}
+use Rattle.std.specs.Prelude.{ℕ, ◌+◌, ◌*◌, ◌/◌, ◌<◌, ◌≤◌, cond, ◌&&◌, ℤ, pos, nat_le, nat_lt, to_bits, Float, Result, Ok, Err}
 use Rattle.std.specs.Float.{nan, inf, fin, binary64}
 use Rattle.std.specs.Float.Ieee.{up, down, of_int, div}
-use Rattle.amounts.specs.declared.reading.Taken.{Taken}
-use Rattle.amounts.specs.declared.reading.Taken.TheVariants.{Is, Over, Bad}
+use Rattle.amounts.specs.declared.reading.ReadingFault.{ReadingFault}
+use Rattle.amounts.specs.declared.reading.ReadingFault.TheVariants.{Over, Bad}
 
 -- a reading is taken in thousandths of its unit
 abbrev pub parts_per_unit : ℕ
@@ -20,14 +20,14 @@ pub record Nearest (F m : ℕ) (e : ℤ) (t : ℕ) : Type 0 where
   pub high : 2 * F * m * up e + down e < 2 * (t + 1) * down e
 
 -- t where it is within the limit
-abbrev pub limited : (limit t : ℕ) → Taken
-limited limit t = cond (nat_le t limit) (Is t) Over
+abbrev pub limited : (limit t : ℕ) → Result ℕ ReadingFault
+limited limit t = cond (nat_le t limit) (Ok t) (Err Over)
 
 -- Bad where x is not finite or below zero; negative zero is zero; Over above the limit of `most` whole units
-unfoldable pub taken_of : (F most : ℕ) (x : Float) → Taken
-taken_of F most nan = Bad
-taken_of F most (inf s) = Bad
-taken_of F most (fin s m e) = cond (s && nat_lt 0 m) Bad (limited (F * most) (nearest_parts F m e))
+unfoldable pub taken_of : (F most : ℕ) (x : Float) → Result ℕ ReadingFault
+taken_of F most nan = Err Bad
+taken_of F most (inf s) = Err Bad
+taken_of F most (fin s m e) = cond (s && nat_lt 0 m) (Err Bad) (limited (F * most) (nearest_parts F m e))
 
 -- t parts as a reading: the binary64 of t, divided once by the parts of a unit
 unfoldable pub of_parts : (t : ℕ) → Float

@@ -2,7 +2,7 @@
 ghost use Rattle.std.specs.Prelude.{◌≡◌, ◌*◌, ◌/◌, ◌<◌, ◌≤◌};
 ghost use Rattle.amounts.specs.Line.{whole_share, most_divisor, Admissible, admissible, removed_of, amounts_of, worked_of};
 
-use super::scaling::{divided, plus};
+use super::scaling::{Part, divided, plus};
 
 // Efficiency and reuse are in tenths of a percent: this many make the whole.
 pub const WHOLE_SHARE: u64 = 1000;
@@ -11,19 +11,12 @@ pub const WHOLE_SHARE: u64 = 1000;
 pub const MOST_DIVISOR: u64 = 10_000_000_000_000_000;
 
 // All in units of 10 micrograms.
-#[derive(Clone, Copy)]
+#[derive(Clone, Copy, Debug, PartialEq, Eq)]
 pub struct Amounts {
     pub generated: u64,
     pub removed: u64,
     pub reused: u64,
     pub discharged: u64,
-}
-
-// A line's amounts; or Bad, where a number is outside its range.
-#[derive(Clone, Copy)]
-pub enum Worked {
-    Line(Amounts),
-    Bad,
 }
 
 fn takes(efficiency: u64, n: u64, d: u64, reuse: u64) -> bool
@@ -49,7 +42,11 @@ fn removed(generated: u64, efficiency: u64, n: u64, d: u64) -> u64
     let treated = of_whole(generated, efficiency);
     let rest = generated % WHOLE_SHARE * efficiency % WHOLE_SHARE;
     let ran = divided(treated, n, d);
-    let all = plus(ran.q, ran.r, 0, rest * n / WHOLE_SHARE, d);
+    let carried = Part {
+        q: 0,
+        r: rest * n / WHOLE_SHARE,
+    };
+    let all = plus(ran, carried, d);
     all.q
 }
 
@@ -77,14 +74,21 @@ fn apportion(generated: u64, efficiency: u64, n: u64, d: u64, reuse: u64, water:
     }
 }
 
-// The four amounts of a line whose treatment ran n / d of the time, whatever was generated. Bad where efficiency or reuse is above
+// The four amounts of a line whose treatment ran n / d of the time, whatever was generated. None where efficiency or reuse is above
 // WHOLE_SHARE, n above d, or d 0 or above MOST_DIVISOR. Out of water nothing is reused, and `reuse` must be in its range all the same.
-pub fn work(generated: u64, efficiency: u64, n: u64, d: u64, reuse: u64, water: bool) -> Worked
+pub fn work(
+    generated: u64,
+    efficiency: u64,
+    n: u64,
+    d: u64,
+    reuse: u64,
+    water: bool,
+) -> Option<Amounts>
     ensures { result ≡ worked_of generated efficiency n d reuse water }
 {
     if takes(efficiency, n, d, reuse) {
-        Worked::Line(apportion(generated, efficiency, n, d, reuse, water))
+        Some(apportion(generated, efficiency, n, d, reuse, water))
     } else {
-        Worked::Bad
+        None
     }
 }

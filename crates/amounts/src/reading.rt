@@ -44,10 +44,9 @@ pub fn from_bits(n: u64) -> f64
     }
 }
 
-// A whole number of parts; or over the limit that was given; or not finite, or below zero.
-#[derive(Clone, Copy)]
-pub enum Taken {
-    Is(u64),
+// Why a reading has no whole number of parts: it is over the limit that was given; or it is not finite, or below zero.
+#[derive(Clone, Copy, Debug, PartialEq, Eq)]
+pub enum ReadingFault {
     Over,
     Bad,
 }
@@ -55,41 +54,41 @@ pub enum Taken {
 // `whole` parts make a unit, and twice as many are odd · 2^shift. A number whose field is e is q · 2^(e - ONES_FIELD), q its 53 digits.
 // So its half parts are odd · q, shifted right by ONES_FIELD - (e + shift). The nearest whole number of parts, a tie up, is half of one
 // more than the half parts. Shifted by more than 63 nothing is left of them; not shifted to the right they are past any limit of 32 bits.
-fn by_bits(bits: u64, whole: u64, odd: u64, shift: u64, most: u32) -> Taken
+fn by_bits(bits: u64, whole: u64, odd: u64, shift: u64, most: u32) -> Result<u64, ReadingFault>
     requires { Split whole odd shift }
     ensures { result ≡ taken_of whole most (from_bits binary64 bits) }
 {
     if SIGN < bits {
-        return Taken::Bad;
+        return Err(ReadingFault::Bad);
     }
     if bits == SIGN {
-        return Taken::Is(0);
+        return Ok(0);
     }
     let e = bits / FIRST_DIGIT;
     if e == FULL_FIELD {
-        return Taken::Bad;
+        return Err(ReadingFault::Bad);
     }
     if e + shift < ONES_FIELD - 63 {
-        return Taken::Is(0);
+        return Ok(0);
     }
     if ONES_FIELD <= e + shift {
-        return Taken::Over;
+        return Err(ReadingFault::Over);
     }
     let q = FIRST_DIGIT + bits % FIRST_DIGIT;
     let t = ((odd * q >> ONES_FIELD - (e + shift)) + 1) / 2;
     if whole * (most as u64) < t {
-        return Taken::Over;
+        return Err(ReadingFault::Over);
     }
-    Taken::Is(t)
+    Ok(t)
 }
 
 // The parts of x, PARTS_PER_UNIT to a unit: to the nearest whole number, a tie up, x at its exact value; negative zero has 0.
 // Bad for a NaN, an infinity of either sign and any number below zero. Over where the parts are more than those of `most` whole units.
-pub fn parts_of(x: f64, most: u32) -> Taken
+pub fn parts_of(x: f64, most: u32) -> Result<u64, ReadingFault>
     ensures { result ≡ taken_of parts_per_unit most x }
 {
     if x != x {
-        return Taken::Bad;
+        return Err(ReadingFault::Bad);
     }
     by_bits(f64::to_bits(x), PARTS_PER_UNIT, ODD, SHIFT, most)
 }

@@ -10,37 +10,36 @@ pub(crate) struct Part {
     pub(crate) r: u64,
 }
 
-// The sum of (q, r) and (m, n). The test is on what is left of d, so that no sum of two remainders can wrap.
-pub(crate) fn plus(q: u64, r: u64, m: u64, n: u64, d: u64) -> Part
-    requires { (r < d) × (n < d) × Room ((q + m) * d + (r + n)) d }
-    ensures { Parts ((q + m) * d + (r + n)) d result.q result.r }
+// The sum of a and b. The test is on what is left of d, so that no sum of two remainders can wrap.
+pub(crate) fn plus(a: Part, b: Part, d: u64) -> Part
+    requires { (a.r < d) × (b.r < d) × Room ((a.q + b.q) * d + (a.r + b.r)) d }
+    ensures { Parts ((a.q + b.q) * d + (a.r + b.r)) d result.q result.r }
 {
-    let left = d - n;
-    if r < left {
-        Part { q: q + m, r: r + n }
+    let left = d - b.r;
+    if a.r < left {
+        Part {
+            q: a.q + b.q,
+            r: a.r + b.r,
+        }
     } else {
         Part {
-            q: q + m + 1,
-            r: r - left,
+            q: a.q + b.q + 1,
+            r: a.r - left,
         }
     }
 }
 
-// x times (m, n), by the binary digits of x: for every d of 64 bits.
-fn doubled(x: u64, m: u64, n: u64, d: u64) -> Part
-    requires { (n < d) × Room (x * (m * d + n)) d }
-    ensures { Parts (x * (m * d + n)) d result.q result.r }
+// x times y, by the binary digits of x: for every d of 64 bits.
+fn doubled(x: u64, y: Part, d: u64) -> Part
+    requires { (y.r < d) × Room (x * (y.q * d + y.r)) d }
+    ensures { Parts (x * (y.q * d + y.r)) d result.q result.r }
 {
     if x == 0 {
         return Part { q: 0, r: 0 };
     }
-    let half = doubled(x / 2, m, n, d);
-    let even = plus(half.q, half.r, half.q, half.r, d);
-    if x % 2 == 0 {
-        even
-    } else {
-        plus(even.q, even.r, m, n, d)
-    }
+    let half = doubled(x / 2, y, d);
+    let even = plus(half, half, d);
+    if x % 2 == 0 { even } else { plus(even, y, d) }
 }
 
 // 2^k.
@@ -117,26 +116,20 @@ fn share(x: u64, n: u64, d: u64) -> u64
         let shared = divided(x, n, d);
         return shared.q;
     }
-    let whole = doubled(x, n / d, n % d, d);
+    let whole = doubled(x, Part { q: n / d, r: n % d }, d);
     whole.q
 }
 
-// A whole number; or Bad, where it was asked for a share of nothing, or for more than the whole.
-#[derive(Clone, Copy)]
-pub enum Portion {
-    Is(u64),
-    Bad,
-}
-
-// The whole part of x · n / d, for any x. Bad where d is 0 or n is above d; x where n is d.
-pub fn scaled(x: u64, n: u64, d: u64) -> Portion
+// The whole part of x · n / d, for any x; x where n is d. None for a share of nothing, where d is 0, or of more than the whole, where n is
+// above d.
+pub fn scaled(x: u64, n: u64, d: u64) -> Option<u64>
     ensures { result ≡ scaled_of x n d }
 {
     if d < n {
-        return Portion::Bad;
+        return None;
     }
     if d == 0 {
-        return Portion::Bad;
+        return None;
     }
-    Portion::Is(share(x, n, d))
+    Some(share(x, n, d))
 }

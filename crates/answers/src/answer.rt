@@ -1,5 +1,5 @@
 // What the desk answers: figures, or one refusal.
-ghost use Rattle.std.specs.Prelude.{◌≡◌};
+ghost use Rattle.std.specs.Prelude.{◌≡◌, Err};
 ghost use Rattle.answers.specs.Answer.{answer_line, answer_number, code_of, file_rule, line_rule};
 
 // In an answer that is one number a refusal's number is counted in these, so that the line, a u16, stands below it.
@@ -7,7 +7,7 @@ pub const NUMBER_UNIT: u64 = 65536;
 
 // What is wrong with a whole file or a whole result, in the order in which it is looked for. Rule 1 is for either book, the works' own and
 // the published one. A sheet is a binary one or a text.
-#[derive(Clone, Copy)]
+#[derive(Clone, Copy, Debug, PartialEq, Eq)]
 pub enum FileFault {
     OwnBookMalformed,
     BookMalformed,
@@ -18,7 +18,7 @@ pub enum FileFault {
 }
 
 // What is wrong with a line, in the order in which it is looked for.
-#[derive(Clone, Copy)]
+#[derive(Clone, Copy, Debug, PartialEq, Eq)]
 pub enum LineFault {
     ActivityTooLarge,
     ReuseTooLarge,
@@ -32,12 +32,12 @@ pub enum LineFault {
     KAboveOne,
 }
 
-// Refused with what is wrong; a line counts from 1.
-#[derive(Clone, Copy)]
-pub enum Outcome {
-    Accepted,
-    RefusedFile(FileFault),
-    RefusedLine(LineFault, u16),
+// What is refused: a whole file or a whole result, or a line of the sheet, which counts from 1. Where nothing is refused the desk answers
+// `Ok(())`.
+#[derive(Clone, Copy, Debug, PartialEq, Eq)]
+pub enum Refusal {
+    File(FileFault),
+    Line(LineFault, u16),
 }
 
 impl FileFault {
@@ -76,33 +76,41 @@ impl LineFault {
     }
 }
 
-impl Outcome {
-    // The refusal's number; 0 where nothing is refused.
+impl Refusal {
+    // The refusal's number.
     pub fn number(self) -> u16
-        ensures { result ≡ answer_number self }
+        ensures { result ≡ answer_number (Err self) }
     {
         match self {
-            Outcome::Accepted => 0,
-            Outcome::RefusedFile(fault) => fault.number(),
-            Outcome::RefusedLine(fault, _) => fault.number(),
+            Refusal::File(fault) => fault.number(),
+            Refusal::Line(fault, _) => fault.number(),
         }
     }
 
-    // The refusal's line; 0 where nothing is refused, or no single line is meant.
+    // The refusal's line; 0 where no single line is meant.
     pub fn line(self) -> u16
-        ensures { result ≡ answer_line self }
+        ensures { result ≡ answer_line (Err self) }
     {
         match self {
-            Outcome::Accepted => 0,
-            Outcome::RefusedFile(_) => 0,
-            Outcome::RefusedLine(_, line) => line,
+            Refusal::File(_) => 0,
+            Refusal::Line(_, line) => line,
         }
     }
 
-    // The answer as one number: 0 where nothing is refused, else the refusal's number times 65,536, and its line.
+    // The refusal as one number: its number times 65,536, and its line.
     pub fn code(self) -> u64
-        ensures { result ≡ code_of self }
+        ensures { result ≡ code_of (Err self) }
     {
         (self.number() as u64) * NUMBER_UNIT + (self.line() as u64)
+    }
+}
+
+// The answer as one number: 0 where nothing is refused, else the refusal's.
+pub fn outcome_code(outcome: Result<(), Refusal>) -> u64
+    ensures { result ≡ code_of outcome }
+{
+    match outcome {
+        Ok(()) => 0,
+        Err(refusal) => refusal.code(),
     }
 }

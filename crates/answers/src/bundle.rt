@@ -1,33 +1,34 @@
 // What the desk answers to a bundle as a whole: every sheet has its own answer, or one refusal of them all.
-ghost use Rattle.std.specs.Prelude.{◌≡◌};
+ghost use Rattle.std.specs.Prelude.{◌≡◌, Err};
 ghost use Rattle.answers.specs.Bundle.{bundle_code, bundle_number};
 
 use super::answer::NUMBER_UNIT;
 
-// Malformed is looked for before too short.
-#[derive(Clone, Copy)]
-pub enum BundleOutcome {
-    Taken,
+// Why all sheets are refused; malformed is looked for before too short.
+#[derive(Clone, Copy, Debug, PartialEq, Eq)]
+pub enum BundleFault {
     BundleMalformed,
     ResultTooShort,
 }
 
-impl BundleOutcome {
-    // The refusal's number; 0 where the bundle is taken.
+impl BundleFault {
+    // The refusal's number.
     pub fn number(self) -> u16
-        ensures { result ≡ bundle_number self }
+        ensures { result ≡ bundle_number (Err self) }
     {
         match self {
-            BundleOutcome::Taken => 0,
-            BundleOutcome::BundleMalformed => 16,
-            BundleOutcome::ResultTooShort => 3,
+            BundleFault::BundleMalformed => 16,
+            BundleFault::ResultTooShort => 3,
         }
     }
+}
 
-    // The answer as one number. No line of a sheet is meant, so that below the refusal's number there stands 0.
-    pub fn code(self) -> u64
-        ensures { result ≡ bundle_code self }
-    {
-        (self.number() as u64) * NUMBER_UNIT
+// The answer as one number: 0 where the bundle is taken. No line of a sheet is meant, so that below the refusal's number there stands 0.
+pub fn bundle_code(outcome: Result<(), BundleFault>) -> u64
+    ensures { result ≡ bundle_code outcome }
+{
+    match outcome {
+        Ok(()) => 0,
+        Err(fault) => (fault.number() as u64) * NUMBER_UNIT,
     }
 }

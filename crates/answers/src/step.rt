@@ -2,50 +2,48 @@
 ghost use Rattle.std.specs.Prelude.{◌≡◌};
 ghost use Rattle.answers.specs.Step.{count_code, step_code};
 
-use super::answer::{FileFault, NUMBER_UNIT, Outcome};
+use super::answer::{FileFault, NUMBER_UNIT, Refusal};
 
 // The number of a table that is off.
 const TABLE_OFF: u64 = 22;
 
-// What one more step did: something changed, or the table was whole already. A table that is off is looked for before a result that is too
-// short.
-#[derive(Clone, Copy)]
-pub enum StepOutcome {
+// What one more step did: something changed, or the table was whole already.
+#[derive(Clone, Copy, Debug, PartialEq, Eq)]
+pub enum Stepped {
     Changed,
     Whole,
+}
+
+// Why no step was taken; a table that is off is looked for before a result that is too short.
+#[derive(Clone, Copy, Debug, PartialEq, Eq)]
+pub enum StepFault {
     TableOff,
     ResultTooShort,
 }
 
-// How many steps change something.
-#[derive(Clone, Copy)]
-pub enum CountOutcome {
-    Changes(usize),
-    TableOff,
-}
+// The table whose steps are to be counted is off.
+#[derive(Clone, Copy, Debug, PartialEq, Eq)]
+pub struct TableOff;
 
-impl StepOutcome {
-    // The answer as one number: 1 where something changed, 0 where the table is whole, else the refusal's number times 65,536.
-    pub fn code(self) -> u64
-        ensures { result ≡ step_code self }
-    {
-        match self {
-            StepOutcome::Changed => 1,
-            StepOutcome::Whole => 0,
-            StepOutcome::TableOff => TABLE_OFF * NUMBER_UNIT,
-            StepOutcome::ResultTooShort => Outcome::RefusedFile(FileFault::ResultTooShort).code(),
-        }
+// The answer to a step as one number: 1 where something changed, 0 where the table is whole, else the refusal's number times 65,536.
+pub fn step_code(outcome: Result<Stepped, StepFault>) -> u64
+    ensures { result ≡ step_code outcome }
+{
+    match outcome {
+        Ok(Stepped::Changed) => 1,
+        Ok(Stepped::Whole) => 0,
+        Err(StepFault::TableOff) => TABLE_OFF * NUMBER_UNIT,
+        Err(StepFault::ResultTooShort) => Refusal::File(FileFault::ResultTooShort).code(),
     }
 }
 
-impl CountOutcome {
-    // The answer as one number: the count, which of a table of the desk's size is below 65,536; or the refusal's number times 65,536.
-    pub fn code(self) -> u64
-        ensures { result ≡ count_code self }
-    {
-        match self {
-            CountOutcome::Changes(steps) => steps as u64,
-            CountOutcome::TableOff => TABLE_OFF * NUMBER_UNIT,
-        }
+// How many steps change something, as one number: the count, which of a table of the desk's size is below 65,536; or the refusal's number
+// times 65,536.
+pub fn count_code(outcome: Result<usize, TableOff>) -> u64
+    ensures { result ≡ count_code outcome }
+{
+    match outcome {
+        Ok(steps) => steps as u64,
+        Err(TableOff) => TABLE_OFF * NUMBER_UNIT,
     }
 }

@@ -1,5 +1,5 @@
 -- What a right bundle says of its sheets, which refusal comes first, and what room there is where a bundle is taken.
-use Prim.Native.Nat.{ℕ, zero, suc, ◌+◌, ◌*◌, ◌-◌, ◌≤◌, ◌<◌}
+use Prim.Native.Nat.{ℕ, zero, suc, ◌+◌, ◌*◌, ◌≤◌, ◌<◌}
 use mathlib.Core.Path.{◌≡◌, refl}
 use mathlib.Core.Bool.{Bool, true, false}
 use mathlib.Core.List.{List, [], ◌∷◌}
@@ -8,25 +8,15 @@ use native.Mathlib.Omega.{arith}
 use native.Mathlib.Nat.{suc-mul, mul-le-mul_right, not-suc-le-zero, le_of_suc-le-suc, eq-or-lt_of_le}
 use lib.Dec.{leb}
 use borrow.Author.Tests.{leb-true}
+use Rattle.std.specs.Prelude.{Result, Ok, Err, ⊤}
 use Rattle.search.specs.Test.{every}
 use Rattle.search.proofs.LawTest.{either_way, clash, and_left, and_right, all_at, every_at}
 use Rattle.headers.specs.House.{file_ok}
-use Rattle.answers.specs.declared.bundle.BundleOutcome.TheVariants.{Taken, BundleMalformed, ResultTooShort}
+use Rattle.answers.specs.declared.bundle.BundleFault.{BundleFault}
+use Rattle.answers.specs.declared.bundle.BundleFault.TheVariants.{BundleMalformed, ResultTooShort}
 use Rattle.bundle.specs.Bundle.{bundle_header, most_sheets, sheet_count, cells_per_sheet, entries_end, sheet_offset, sheet_end}
 use Rattle.bundle.specs.Bundle.{bundle_header_size, bundle_fits, bundle_header_ok, after_the_one_before, entry_ok, entries_ok, bundle_ok}
 use Rattle.bundle.specs.Whole.{cells_owned, roomy, bundle_outcome}
-
-pub first_sheet : (b : List ℕ) (i : ℕ) → i ≡ 0 → true ≡ after_the_one_before b i
-unfolding after_the_one_before
-first_sheet b zero e = refl
-first_sheet b (suc i) e = absurd (omega arith)
-
-pub later_sheet : (b : List ℕ) (i : ℕ) → (i ≡ 0 → ⊥) → leb (sheet_end b (i - 1)) (sheet_offset b i) ≡ after_the_one_before b i
-unfolding after_the_one_before
-later_sheet b zero h = absurd (h refl)
-later_sheet b (suc i) h =
-    let before : suc i - 1 ≡ i = omega arith in
-    rw before refl
 
 -- ---- the room
 
@@ -46,19 +36,19 @@ module _ (b : List ℕ) (exact shown outcomes : ℕ) (h : roomy b exact shown ou
   unfolding roomy
   outcomes_room = leb-true _ _ (every_at tests h 2)
 
-pub taken_right : (b : List ℕ) (exact shown outcomes : ℕ) → bundle_outcome b exact shown outcomes ≡ Taken → bundle_ok b ≡ true
+pub taken_right : (b : List ℕ) (exact shown outcomes : ℕ) → bundle_outcome b exact shown outcomes ≡ Ok tt → bundle_ok b ≡ true
 unfolding bundle_outcome
 taken_right b exact shown outcomes h =
-    either_way (bundle_ok b) (λ p. p) (λ p. let e : BundleMalformed ≡ Taken = rw p at h in clash (cc))
+    either_way (bundle_ok b) (λ p. p) (λ p. let e : ◌≡◌ {A = Result ⊤ BundleFault} (Err BundleMalformed) (Ok tt) = rw p at h in clash (cc))
 
-pub taken_room : (b : List ℕ) (exact shown outcomes : ℕ) → bundle_outcome b exact shown outcomes ≡ Taken → roomy b exact shown outcomes ≡ true
+pub taken_room : (b : List ℕ) (exact shown outcomes : ℕ) → bundle_outcome b exact shown outcomes ≡ Ok tt → roomy b exact shown outcomes ≡ true
 unfolding bundle_outcome
 taken_room b exact shown outcomes h =
     either_way (bundle_ok b)
     (λ p. either_way (roomy b exact shown outcomes)
     (λ q. q)
-    (λ q. let e : ResultTooShort ≡ Taken = rw (p, q) at h in clash (cc)))
-    (λ p. let e : BundleMalformed ≡ Taken = rw p at h in clash (cc))
+    (λ q. let e : ◌≡◌ {A = Result ⊤ BundleFault} (Err ResultTooShort) (Ok tt) = rw (p, q) at h in clash (cc)))
+    (λ p. let e : ◌≡◌ {A = Result ⊤ BundleFault} (Err BundleMalformed) (Ok tt) = rw p at h in clash (cc))
 
 -- each sheet's run lies in the cells that the sheets own together
 pub run_inside : (b : List ℕ) (i : ℕ) → i < sheet_count b → i * cells_per_sheet b + cells_per_sheet b ≤ cells_owned b
@@ -67,7 +57,7 @@ run_inside b i h = omega (arith, suc-mul i (cells_per_sheet b), mul-le-mul_right
 -- ---- the order of the refusals
 
 -- a malformed bundle is 16, whatever room there is
-pub malformed_first : (b : List ℕ) (exact shown outcomes : ℕ) → bundle_ok b ≡ false → bundle_outcome b exact shown outcomes ≡ BundleMalformed
+pub malformed_first : (b : List ℕ) (exact shown outcomes : ℕ) → bundle_ok b ≡ false → bundle_outcome b exact shown outcomes ≡ Err BundleMalformed
 unfolding bundle_outcome
 malformed_first b exact shown outcomes h = rw h refl
 

@@ -31,6 +31,7 @@ pub(crate) fn sheet_end(b: &[u8], i: usize) -> usize
 }
 
 // The bytes of sheet i, counted from 0: a part of the bundle, or as many of its bytes as there are. Past the last sheet, none.
+#[tactic(auto, unfolding(crate::specs::Bundle::sheet_of))]
 pub fn sheet_of(b: &[u8], i: usize) -> &[u8]
     ensures { result.now ≡ sheet_of b.now i }
 {

@@ -7,6 +7,7 @@ use super::entry::{sheet_end, sheet_offset};
 use super::header::{ENTRY_SIZE, HEADER_SIZE, bundle_header_ok, sheet_count};
 use little::read::u32_at;
 
+#[tactic(auto, unfolding(crate::specs::Bundle::after_the_one_before))]
 fn after_the_one_before(b: &[u8], i: usize) -> bool
     requires { i < counted }
     ensures { result ≡ after_the_one_before b.now i }
@@ -18,6 +19,7 @@ fn after_the_one_before(b: &[u8], i: usize) -> bool
     }
 }
 
+#[tactic(auto, unfolding(crate::specs::Bundle::entry_ok, search::specs::Test::every))]
 fn entry_ok(b: &[u8], i: usize) -> bool
     requires { i < counted }
     ensures { result ≡ entry_ok b.now i }
@@ -31,23 +33,13 @@ fn entry_ok(b: &[u8], i: usize) -> bool
 fn entries_ok(b: &[u8]) -> bool
     ensures { result ≡ entries_ok b.now }
 {
-    let sheets = sheet_count(b);
-    let mut ok = true;
-    let mut i = 0;
-    while i < sheets {
-        ok = ok & entry_ok(b, i);
-        i += 1;
-    }
-    ok
+    (0..sheet_count(b)).all(|i| entry_ok(b, i))
 }
 
 // Whether a bundle of any content and size is right. Entries are looked at only where the header is, so that no wrong count is walked.
+#[tactic(auto, unfolding(crate::specs::Bundle::bundle_ok))]
 pub fn bundle_ok(b: &[u8]) -> bool
     ensures { result ≡ bundle_ok b.now }
 {
-    if bundle_header_ok(b) {
-        entries_ok(b)
-    } else {
-        false
-    }
+    bundle_header_ok(b) && entries_ok(b)
 }

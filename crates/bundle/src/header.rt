@@ -27,6 +27,7 @@ pub fn cells_per_sheet(b: &[u8]) -> usize
 }
 
 // Whether a bundle of any content and size has a header that fits, and its entries.
+#[tactic(auto, unfolding(crate::specs::Bundle::bundle_header_ok, search::specs::Test::every))]
 pub(crate) fn bundle_header_ok(b: &[u8]) -> bool
     ensures { result ≡ bundle_header_ok b.now }
 {

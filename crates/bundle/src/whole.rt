@@ -4,9 +4,10 @@ ghost use Rattle.bundle.specs.Whole.{roomy, bundle_outcome};
 
 use super::form::bundle_ok;
 use super::header::{cells_per_sheet, sheet_count};
-use answers::bundle::BundleOutcome;
+use answers::bundle::BundleFault;
 
 // The count is a u16 and the cells are a u32, so that the product is below 2 ^ 48.
+#[tactic(auto, unfolding(crate::specs::Whole::roomy, search::specs::Test::every))]
 fn has_room(b: &[u8], exact: usize, shown: usize, outcomes: usize) -> bool
     ensures { result ≡ roomy b.now exact shown outcomes }
 {
@@ -16,16 +17,20 @@ fn has_room(b: &[u8], exact: usize, shown: usize, outcomes: usize) -> bool
 }
 
 // For a bundle of any content and size, and results and outcomes of so many cells.
-pub fn bundle_outcome(b: &[u8], exact: usize, shown: usize, outcomes: usize) -> BundleOutcome
+#[tactic(auto, unfolding(crate::specs::Whole::bundle_outcome))]
+pub fn bundle_outcome(
+    b: &[u8],
+    exact: usize,
+    shown: usize,
+    outcomes: usize,
+) -> Result<(), BundleFault>
     ensures { result ≡ bundle_outcome b.now exact shown outcomes }
 {
-    if bundle_ok(b) {
-        if has_room(b, exact, shown, outcomes) {
-            BundleOutcome::Taken
-        } else {
-            BundleOutcome::ResultTooShort
-        }
-    } else {
-        BundleOutcome::BundleMalformed
+    if !bundle_ok(b) {
+        return Err(BundleFault::BundleMalformed);
     }
+    if !has_room(b, exact, shown, outcomes) {
+        return Err(BundleFault::ResultTooShort);
+    }
+    Ok(())
 }

@@ -6,24 +6,25 @@ use mathlib.Core.List.{List}
 use native.Mathlib.Omega.{arith}
 use Rattle.answers.specs.Answer.{number_unit}
 use Rattle.answers.specs.Bundle.{bundle_number, bundle_code}
-use Rattle.answers.specs.declared.bundle.BundleOutcome.{BundleOutcome}
-use Rattle.answers.specs.declared.bundle.BundleOutcome.TheVariants.{Taken, BundleMalformed, ResultTooShort}
+use Rattle.std.specs.Prelude.{⊤, Result, Ok, Err}
+use Rattle.answers.specs.declared.bundle.BundleFault.{BundleFault}
+use Rattle.answers.specs.declared.bundle.BundleFault.TheVariants.{BundleMalformed, ResultTooShort}
 use Rattle.desk.specs.Lent.{Sources}
 use Rattle.desk.specs.Works.{Results}
 use Rattle.desk.proofs.LawOnce.{bundle_declared_once}
 use Rattle.checkraven_c.specs.BundleCode.{answered_bundle, AccountsBundle}
 
-only_taken : (o : BundleOutcome) → bundle_code o ≡ 0 → o ≡ Taken
-only_taken Taken e = refl
-only_taken BundleMalformed e = absurd (omega (arith, e))
-only_taken ResultTooShort e = absurd (omega (arith, e))
+only_taken : (o : Result ⊤ BundleFault) → bundle_code o ≡ 0 → o ≡ Ok tt
+only_taken (Ok _) e = refl
+only_taken (Err BundleMalformed) e = absurd (omega (arith, e))
+only_taken (Err ResultTooShort) e = absurd (omega (arith, e))
 
 module _ (from : Sources) (bundle : List ℕ) (before : Results) (r : ℕ) (after : Results) (p : AccountsBundle from bundle before r after) where
   -- 0 exactly where the bundle is taken
-  pub zero_taken : r ≡ 0 → answered_bundle bundle before ≡ Taken
+  pub zero_taken : r ≡ 0 → answered_bundle bundle before ≡ Ok tt
   zero_taken z = only_taken (answered_bundle bundle before) (sym p.answer ∙ z)
 
-  pub taken_zero : answered_bundle bundle before ≡ Taken → r ≡ 0
+  pub taken_zero : answered_bundle bundle before ≡ Ok tt → r ≡ 0
   taken_zero e = p.answer ∙ ap bundle_code e
 
   -- its two parts, on which the C header's macros rest

@@ -7,7 +7,7 @@ use native.Mathlib.Omega.{arith}
 use lib.ListN.{length}
 use Rattle.desk.specs.Lent.{Lent}
 use Rattle.answers.specs.Answer.{answer_number, answer_line, number_unit, code_of}
-use Rattle.answers.specs.declared.answer.Outcome.TheVariants.{Accepted}
+use Rattle.std.specs.Prelude.{Ok}
 use Rattle.answers.proofs.LawCode.{code_zero, code_number, code_line}
 use Rattle.desk.proofs.LawDemands.{answer_line_small}
 use Rattle.desk.proofs.LawOnce.{declared_once}
@@ -15,10 +15,10 @@ use Rattle.checkraven_c.specs.Code.{answered, Accounts}
 
 module _ (f : Lent) (exact shown : List ℕ) (r : ℕ) (exact' shown' : List ℕ) (p : Accounts f exact shown r exact' shown') where
   -- 0 exactly for accepted
-  pub zero_accepted : r ≡ 0 → answered f exact shown ≡ Accepted
+  pub zero_accepted : r ≡ 0 → answered f exact shown ≡ Ok tt
   zero_accepted z = code_zero (answered f exact shown) (sym p.answer ∙ z)
 
-  pub accepted_zero : answered f exact shown ≡ Accepted → r ≡ 0
+  pub accepted_zero : answered f exact shown ≡ Ok tt → r ≡ 0
   accepted_zero e = p.answer ∙ ap code_of e
 
   line_small : answer_line (answered f exact shown) < number_unit

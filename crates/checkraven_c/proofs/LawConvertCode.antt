@@ -6,8 +6,8 @@ use native.Mathlib.Omega.{arith}
 use lib.ListN.{length}
 use Rattle.search.proofs.LawTest.{either_way}
 use Rattle.answers.specs.Answer.{answer_number, answer_line, number_unit, code_of}
-use Rattle.answers.specs.declared.answer.Outcome.{Outcome}
-use Rattle.answers.specs.declared.answer.Outcome.TheVariants.{Accepted}
+use Rattle.std.specs.Prelude.{⊤, Result, Ok, Err}
+use Rattle.answers.specs.declared.answer.Refusal.{Refusal}
 use Rattle.answers.proofs.LawCode.{code_zero, code_number, code_line}
 use Rattle.desk.specs.Lent.{Sources, lent}
 use Rattle.desk.specs.Book.{book_ok}
@@ -18,7 +18,6 @@ use Rattle.text.specs.Convert.{Made, Gives, Refuses, by_room}
 use Rattle.text.specs.Read.{sheet_of_text}
 use Rattle.text.specs.Written.{text_of_sheet}
 use Rattle.text.specs.Declare.{answer_by, text_answer}
-use Rattle.text.specs.declared.convert.Converted.TheVariants.{Refused}
 use Rattle.text.proofs.LawBack.{written_size}
 use Rattle.text.proofs.LawCode.{made_refused}
 use Rattle.text.proofs.LawConvert.{one_conversion}
@@ -34,13 +33,13 @@ text_count_small s text made = omega (arith, written_size s text made)
 
 -- ---- the parts of an answer, on which the C header's macros rest
 
-module _ (made : Made) (bytes : List ℕ) (r : ℕ) (bytes' : List ℕ) (p : ConvertsCode made bytes r bytes') (o : Outcome)
-    (refused : by_room made (length bytes) ≡ Refused o) (small : answer_line o < number_unit) where
-  pub converts_number : r / number_unit ≡ answer_number o
-  converts_number = rw (p.answer, refused) (code_number o small)
+module _ (made : Made) (bytes : List ℕ) (r : ℕ) (bytes' : List ℕ) (p : ConvertsCode made bytes r bytes') (o : Refusal)
+    (refused : by_room made (length bytes) ≡ Err o) (small : answer_line (Err o) < number_unit) where
+  pub converts_number : r / number_unit ≡ answer_number (Err o)
+  converts_number = rw (p.answer, refused) (code_number (Err o) small)
 
-  pub converts_line : r % number_unit ≡ answer_line o
-  converts_line = rw (p.answer, refused) (code_line o small)
+  pub converts_line : r % number_unit ≡ answer_line (Err o)
+  converts_line = rw (p.answer, refused) (code_line (Err o) small)
 
 -- a line is small: 0 where there is no sheet, else as the desk has it
 text_line_small : (from : Sources) (text : List ℕ) (room : ℕ) → answer_line (text_answer from text room) < number_unit
@@ -57,14 +56,14 @@ text_line_small from text room = go (sheet_of_text text) refl
         (λ w. rw w (omega arith))
 
 module _ (from : Sources) (text exact shown : List ℕ) (r : ℕ) (exact' shown' : List ℕ) (p : AccountsText from text exact shown r exact' shown') where
-  abbrev answered : Outcome
+  abbrev answered : Result ⊤ Refusal
   answered = answered_text from text exact shown
 
   -- 0 exactly for accepted
-  pub text_zero_accepted : r ≡ 0 → answered ≡ Accepted
+  pub text_zero_accepted : r ≡ 0 → answered ≡ Ok tt
   text_zero_accepted z = code_zero answered (sym p.answer ∙ z)
 
-  pub text_accepted_zero : answered ≡ Accepted → r ≡ 0
+  pub text_accepted_zero : answered ≡ Ok tt → r ≡ 0
   text_accepted_zero e = p.answer ∙ ap code_of e
 
   pub text_number_is : r / number_unit ≡ answer_number answered

@@ -1,10 +1,10 @@
 -- What the C functions for the inspector's screen promise: the row's bytes, and which row it is.
-use Rattle.std.specs.Prelude.{ℕ, ◌≡◌, List, length}
+use Rattle.std.specs.Prelude.{Result, ℕ, ◌≡◌, List, length}
 use Rattle.desk.specs.Books.{row_bytes}
 use Rattle.desk.specs.declared.key.Key.{Key}
 use Rattle.report.specs.Report.{written_of}
 use Rattle.report.specs.Row.{ReportedRow}
-use Rattle.report.specs.declared.Written.{Written}
+use Rattle.report.specs.declared.NoRoom.{NoRoom}
 use Rattle.checkraven_c.specs.TextCode.{written_code}
 
 -- the seven numbers as a key; one that no field can hold is in no row
@@ -21,7 +21,7 @@ key_of industry product material process scale medium pollutant =
     }
 
 -- what is written of the row, for lent bytes
-abbrev pub row_written : (own book : List ℕ) (k : Key) (row : List ℕ) → Written
+abbrev pub row_written : (own book : List ℕ) (k : Key) (row : List ℕ) → Result ℕ NoRoom
 row_written own book k row = written_of (length (row_bytes own book k)) (length row)
 
 -- the answer r is the code of what is written, and the lent bytes hold the row's, as far as there is one

@@ -14,28 +14,29 @@ ghost use Rattle.desk.specs.Books.{row_number};
 ghost use Rattle.text.specs.Read.{sheet_of_text};
 ghost use Rattle.text.specs.Written.{text_of_sheet};
 
-use answers::answer::NUMBER_UNIT;
+use answers::answer::{FileFault, Refusal, outcome_code};
+use answers::bundle::bundle_code;
+use answers::step::{count_code, step_code};
 use desk::books::row_number;
 use desk::declare::declare;
 use desk::key::Key;
+use desk::lent::Sources;
 use desk::works::declare_bundle;
-use report::{Written, report, report_row};
+use report::{NoRoom, report, report_row};
 use steps::count::settling_steps;
 use steps::step::settling_step;
+use text::convert::converted_code;
 use text::declare::declare_text;
 use text::read::sheet_from_text;
 use text::write::text_from_sheet;
 
-// Rule 3, a result that is too short.
-const TOO_SHORT: u64 = 3;
-
 // How many bytes, below 65,536; or rule 3's number times 65,536.
-fn written_code(written: Written) -> u64
+fn written_code(written: Result<usize, NoRoom>) -> u64
     ensures { result ≡ written_code written }
 {
     match written {
-        Written::Bytes(bytes) => bytes as u64,
-        Written::Short => TOO_SHORT * NUMBER_UNIT,
+        Ok(bytes) => bytes as u64,
+        Err(NoRoom) => Refusal::File(FileFault::ResultTooShort).code(),
     }
 }
 
@@ -52,7 +53,12 @@ pub extern "C" fn checkraven_account(
     ensures { Accounts (lent (sources own.now book.now fugitive.now) sheet.now)
         exact.old shown.old result exact.new shown.new }
 {
-    declare(own, book, fugitive, sheet, exact, shown).code()
+    let sources = Sources {
+        own,
+        book,
+        fugitive,
+    };
+    outcome_code(declare(sources, sheet, exact, shown))
 }
 
 // 0 where the bundle is taken; else the refusal's number times 65,536. The results and the outcomes are left as the desk leaves them.
@@ -70,7 +76,12 @@ pub extern "C" fn checkraven_account_bundle(
         (results exact.old shown.old outcomes.old) result
         (results exact.new shown.new outcomes.new) }
 {
-    declare_bundle(own, book, fugitive, bundle, exact, shown, outcomes).code()
+    let sources = Sources {
+        own,
+        book,
+        fugitive,
+    };
+    bundle_code(declare_bundle(sources, bundle, exact, shown, outcomes))
 }
 
 // The bytes of the report, below 65,536; or rule 3's number times 65,536, where the text has no room for them. The text is left as the
@@ -86,7 +97,12 @@ pub extern "C" fn checkraven_report(
     ensures { Reports (lent (sources own.now book.now fugitive.now) sheet.now)
         text.old result text.new }
 {
-    written_code(report(own, book, fugitive, sheet, text))
+    let sources = Sources {
+        own,
+        book,
+        fugitive,
+    };
+    written_code(report(sources, sheet, text))
 }
 
 // The bytes of the binary sheet, below 65,536; or the refusal's number times 65,536. The sheet is left as the reader leaves it.
@@ -94,7 +110,7 @@ pub extern "C" fn checkraven_report(
 pub extern "C" fn checkraven_sheet_from_text(text: &[u8], sheet: &mut [u8]) -> u64
     ensures { ConvertsCode (sheet_of_text text.now) sheet.old result sheet.new }
 {
-    sheet_from_text(text, sheet).code()
+    converted_code(sheet_from_text(text, sheet))
 }
 
 // The bytes of the text, below 65,536; or the refusal's number times 65,536, and the line. The text is left as the writer leaves it.
@@ -102,7 +118,7 @@ pub extern "C" fn checkraven_sheet_from_text(text: &[u8], sheet: &mut [u8]) -> u
 pub extern "C" fn checkraven_text_from_sheet(sheet: &[u8], text: &mut [u8]) -> u64
     ensures { ConvertsCode (text_of_sheet sheet.now) text.old result text.new }
 {
-    text_from_sheet(sheet, text).code()
+    converted_code(text_from_sheet(sheet, text))
 }
 
 // 0 where the sheet is accepted; else the refusal's number times 65,536, and the line. Both results are left as the desk leaves them.
@@ -118,7 +134,12 @@ pub extern "C" fn checkraven_account_text(
     ensures { AccountsText (sources own.now book.now fugitive.now) text.now
         exact.old shown.old result exact.new shown.new }
 {
-    declare_text(own, book, fugitive, text, exact, shown).code()
+    let sources = Sources {
+        own,
+        book,
+        fugitive,
+    };
+    outcome_code(declare_text(sources, text, exact, shown))
 }
 
 fn key_of(
@@ -194,7 +215,7 @@ pub extern "C" fn checkraven_row_number(
 pub extern "C" fn checkraven_step(unit: u64, table: &[u64], next: &mut [u64]) -> u64
     ensures { StepsCode unit table.now next.old result next.new }
 {
-    settling_step(unit, table, next).code()
+    step_code(settling_step(unit, table, next))
 }
 
 // How many steps change something, below 65,536; or the refusal's number times 65,536.
@@ -202,5 +223,5 @@ pub extern "C" fn checkraven_step(unit: u64, table: &[u64], next: &mut [u64]) ->
 pub extern "C" fn checkraven_steps(unit: u64, table: &[u64]) -> u64
     ensures { CountsCode unit table.now result }
 {
-    settling_steps(unit, table).code()
+    count_code(settling_steps(unit, table))
 }

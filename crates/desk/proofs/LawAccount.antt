@@ -1,14 +1,13 @@
 -- What a line of a good book answers: numbers that the amounts are worked from, and a row that adds up and is small.
 use Prim.Native.Nat.{ℕ, ◌+◌, ◌*◌, ◌≤◌, ◌<◌}
-use mathlib.Core.Bool.{Bool, true, false}
-use mathlib.Core.Path.{◌≡◌, refl, ◌∙◌}
+use mathlib.Core.Bool.{true, false}
+use mathlib.Core.Path.{◌≡◌, refl, ap}
 use mathlib.Core.List.{List}
 use native.Mathlib.Nat.{mul-le-mul, mul-le-mul_right}
 use native.Mathlib.Omega.{arith}
 use lib.Dec.{ltb, eqb}
 use borrow.Author.Tests.{ltb-false}
-use Rattle.search.specs.declared.found.Found.{Found}
-use Rattle.search.specs.declared.found.Found.TheVariants.{At, Nothing}
+use Rattle.std.specs.Prelude.{Option, Some, None, Result, Ok, Err}
 use Rattle.search.proofs.LawTest.{clash, either_way, or_left, or_right}
 use Rattle.search.proofs.LawFirst.{first_below}
 use Rattle.little.specs.Read.{AreBytes}
@@ -17,36 +16,32 @@ use Rattle.fugitive.specs.Grades.{is_given}
 use Rattle.fugitive.specs.Entry.{entry_size, factors_of}
 use Rattle.fugitive.specs.Table.{entry_start, entry_of}
 use Rattle.fugitive.proofs.LawFugitive.{graded_gas, factors_most}
-use Rattle.amounts.specs.Line.{whole_share, Admissible, amounts_of, worked_of, ◌over◌, whole, manual_value, Sound}
+use Rattle.amounts.specs.Line.{whole_share, Admissible, amounts_of, ◌over◌, whole, manual_value, Sound}
 use Rattle.amounts.specs.declared.line.Amounts.{Amounts}
-use Rattle.amounts.specs.declared.line.Worked.{Worked}
-use Rattle.amounts.proofs.LawLine.{worked_line, sound}
-use Rattle.amounts.specs.declared.line.Worked.TheVariants as worked
+use Rattle.amounts.proofs.LawLine.{sound}
 use Rattle.settle.specs.Shown.{sum}
 use Rattle.headers.specs.Book.{technique_block}
 use Rattle.desk.specs.Book.{book_ok, most_coefficient}
 use Rattle.desk.specs.Row.{RowSearch, Hit, Miss, row_of}
 use Rattle.desk.specs.Books.{book_for}
 use Rattle.desk.specs.Technique.{technique_has, technique_index}
-use Rattle.shares.specs.Share.{share_by}
+use Rattle.shares.specs.Share.{part, share_by}
 use Rattle.desk.specs.Line.{most_kilograms, line_of}
 use Rattle.desk.specs.Dust.{units_per_factor, dust_by, dust_of, entry_index}
 use Rattle.desk.specs.Lent.{Lent}
 use Rattle.desk.specs.Cells.{width, cells_of, row_from}
-use Rattle.desk.specs.Account.{treated, by_technique, treatment_of, generated_of, in_water, by_treatment, by_dust, by_row}
+use Rattle.desk.specs.Account.{treats, treated, by_technique, treatment_of, activity_on, generated_of, in_water, by_treatment, by_dust, by_row}
 use Rattle.desk.specs.Account.{excessive, misgraded, account_in, account_of, line_outcome}
 use Rattle.desk.specs.Inner.{Moderate, GoodRow, most_dust, SmallDust, OfDust, Right}
+use Rattle.desk.specs.declared.cells.TableRow.{TableRow}
 use Rattle.desk.specs.declared.line.Line.{Line}
-use Rattle.desk.specs.declared.dust.Dust.{Dust}
-use Rattle.desk.specs.declared.dust.Dust.TheVariants.{Escapes, NoEntry}
+use Rattle.desk.specs.declared.row.Basis.{Basis}
+use Rattle.desk.specs.declared.row.Basis.TheVariants.{Product, Material}
 use Rattle.desk.specs.declared.row.Row.{Row}
 use Rattle.shares.specs.declared.share.Reading.{Reading}
-use Rattle.shares.specs.declared.share.Share.{Share}
-use Rattle.shares.specs.declared.share.Share.TheVariants.{Part, NoShare}
+use Rattle.shares.specs.declared.share.Fraction.{Fraction}
 use Rattle.desk.specs.declared.account.Treatment.{Treatment}
-use Rattle.desk.specs.declared.account.Treatment.TheVariants.{By, NoTreatment}
-use Rattle.desk.specs.declared.account.LineOutcome.{LineOutcome}
-use Rattle.desk.specs.declared.account.LineOutcome.TheVariants.{Given, Refusal}
+use Rattle.answers.specs.declared.answer.LineFault.{LineFault}
 use Rattle.desk.proofs.LawColumns.{Balanced}
 use Rattle.shares.proofs.LawShare.{Fair, share_fair}
 use Rattle.desk.proofs.LawRow.{hit_good}
@@ -59,47 +54,36 @@ moderate line h =
     let m = ltb most_kilograms line.material in
     record { product = ltb-false most_kilograms line.product (or_left p m h); material = ltb-false most_kilograms line.material (or_right p m h) }
 
--- ---- where the numbers are admissible `work` answers a line
-
-module _ (G e n d u : ℕ) (water : Bool) (w : Worked) (ok : Admissible e n d u) (p : w ≡ worked_of G e n d u water) where
-  is_line : w ≡ worked.Line (amounts_of G e n d u water)
-  is_line = p ∙ worked_line G e n d u water ok
-
-  pub line_worked : (a : Amounts) → w ≡ worked.Line a → a ≡ amounts_of G e n d u water
-  line_worked a q = let r = is_line in cc
-
-  pub never_bad : w ≡ worked.Bad → ⊥
-  never_bad q = let r = is_line in clash (cc)
-
 -- ---- the numbers are admissible
 
+pub treats_parts : (k : Treatment) (e n d : ℕ) → Ok k ≡ treats e n d → (k.efficiency ≡ e) × (k.ran.n ≡ n) × (k.ran.d ≡ d)
+treats_parts k e n d h =
+    let same : ◌≡◌ {A = Treatment} k (record { efficiency = e; ran = record { n = n; d = d } }) = cc in
+    (ap (λ (t : Treatment). t.efficiency) same, ap (λ (t : Treatment). t.ran.n) same, ap (λ (t : Treatment). t.ran.d) same)
+
 module _ (u : ℕ) (reuse : u ≤ whole_share) where
-  treated_admissible : (k : ℕ) (share : Share) → k ≤ whole_share → ((n d : ℕ) → share ≡ Part n d → Fair n d)
-      → (e n d : ℕ) → treated k share ≡ By e n d → Admissible e n d u
-  treated_admissible k (NoShare fault) most fair e n d h = clash (cc)
-  treated_admissible k (Part a b) most fair e n d h =
-      let p : k ≡ e = cc in
-      let q : a ≡ n = cc in
-      let r : b ≡ d = cc in
-      let f = fair a b refl in
+  treated_admissible : (k : ℕ) (share : Result Fraction LineFault) → k ≤ whole_share
+      → ((n d : ℕ) → share ≡ part n d → Fair n d)
+      → (e n d : ℕ) → treated k share ≡ treats e n d → Admissible e n d u
+  treated_admissible k (Err fault) most fair e n d h = clash (cc)
+  treated_admissible k (Ok f) most fair e n d h =
+      let same = treats_parts (record { efficiency = k; ran = f }) e n d h in
+      let fits = fair f.n f.d refl in
       record { efficiency = omega arith; fraction = omega arith; divisor = omega arith; size = omega arith; reuse = reuse }
 
   module _ (t : List ℕ) (row : Row) (good : GoodRow t row) (reading : Reading) where
-    technique_admissible : (f : Found) → ((j : ℕ) → f ≡ At j → j < row.techniques)
-        → (e n d : ℕ) → by_technique t row reading f ≡ By e n d → Admissible e n d u
-    technique_admissible Nothing below e n d h = clash (cc)
-    technique_admissible (At j) below e n d h =
+    technique_admissible : (f : Option ℕ) → ((j : ℕ) → f ≡ Some j → j < row.techniques)
+        → (e n d : ℕ) → by_technique t row reading f ≡ treats e n d → Admissible e n d u
+    technique_admissible None below e n d h = clash (cc)
+    technique_admissible (Some j) below e n d h =
         treated_admissible _ (share_by reading row.rule) (good.efficiency j (below j refl)) (share_fair reading row.rule) e n d h
 
-    pub treatment_admissible : (technique e n d : ℕ) → treatment_of t row technique reading ≡ By e n d → Admissible e n d u
+    pub treatment_admissible : (technique e n d : ℕ) → treatment_of t row technique reading ≡ treats e n d → Admissible e n d u
     unfolding treatment_of technique_index
     treatment_admissible technique e n d h =
         either_way (eqb technique 0)
         (λ g.
-        let r : By 0 0 1 ≡ By e n d = rw g at h in
-        let p : 0 ≡ e = cc in
-        let q : 0 ≡ n = cc in
-        let s : 1 ≡ d = cc in
+        let same = treats_parts (record { efficiency = 0; ran = record { n = 0; d = 1 } }) e n d (rw g at h) in
         record { efficiency = omega arith; fraction = omega arith; divisor = omega arith; size = omega arith; reuse = reuse })
         (λ g. technique_admissible (technique_index t row.first row.techniques technique)
         (λ j q. first_below (technique_has t row.first technique) row.techniques j q) e n d (rw g at h))
@@ -121,9 +105,9 @@ unfolding dust_of
 dust_small f line bytes product =
     either_way (is_given line.grades) (λ g. rw g (by (entry_index f line.key))) (λ g. rw g (omega arith))
   where
-    by : (place : Found) → SmallDust (dust_by f line place)
-    by Nothing = tt
-    by (At i) = dust_most (factors_of (entry_of f i) line.grades) line.product (factors_most (entry_of f i) line.grades (part_bytes f (entry_start f i) entry_size bytes)) product
+    by : (place : Option ℕ) → SmallDust (dust_by f line place)
+    by None = tt
+    by (Some i) = dust_most (factors_of (entry_of f i) line.grades) line.product (factors_most (entry_of f i) line.grades (part_bytes f (entry_start f i) entry_size bytes)) product
 
 -- ---- the row adds up, and is at most 10^17 and what escapes
 
@@ -136,9 +120,9 @@ abbrev pub line_most : ℕ
 line_most = 119_660_500_000_000_000
 
 -- what is written where a line gives a row
-abbrev pub Balances : LineOutcome → Type 0
-Balances (Given row) = Balanced width line_most (cells_of row)
-Balances (Refusal fault) = Unit
+abbrev pub Balances : Result TableRow LineFault → Type 0
+Balances (Ok row) = Balanced width line_most (cells_of row)
+Balances (Err fault) = Unit
 
 amounts_balanced : (a : Amounts) (F : ℕ) → a.generated ≡ a.removed + a.reused + a.discharged → a.generated ≤ ducted_most → F ≤ most_dust
     → Balanced width line_most (cells_of (row_from a F))
@@ -147,24 +131,30 @@ amounts_balanced a F adds small dust = record { adds = omega arith; small = omeg
 
 pub generated_small : (row : Row) (line : Line) → row.coefficient ≤ most_coefficient → Moderate line → generated_of row line ≤ ducted_most
 unfolding generated_of
-generated_small row line c m =
-    either_way (eqb row.basis 1) (λ e. rw e (mul-le-mul c m.product)) (λ e. rw e (mul-le-mul c m.material))
+generated_small row line c m = on row.basis
+  where
+    on : (basis : Basis) → row.coefficient * activity_on basis line.product line.material ≤ ducted_most
+    on Product = mul-le-mul c m.product
+    on Material = mul-le-mul c m.material
 
-treatment_balances : (row : Row) (line : Line) (F : ℕ) (k : Treatment) → generated_of row line ≤ ducted_most → F ≤ most_dust
-    → ((e n d : ℕ) → k ≡ By e n d → Admissible e n d line.reuse) → Balances (by_treatment row line F k)
-treatment_balances row line F (NoTreatment fault) small dust ok = tt
-treatment_balances row line F (By e n d) small dust ok =
+treatment_balances : (row : Row) (line : Line) (F : ℕ) (k : Result Treatment LineFault) → generated_of row line ≤ ducted_most → F ≤ most_dust
+    → ((e n d : ℕ) → k ≡ treats e n d → Admissible e n d line.reuse) → Balances (by_treatment row line F k)
+treatment_balances row line F (Err fault) small dust ok = tt
+treatment_balances row line F (Ok k) small dust ok =
     let G = generated_of row line in
+    let e = k.efficiency in
+    let n = k.ran.n in
+    let d = k.ran.d in
     amounts_balanced (amounts_of G e n d line.reuse (in_water line)) F (sound G e n d line.reuse (in_water line) (ok e n d refl)).sum small dust
 
 module _ (b table : List ℕ) (good : book_ok b ≡ true) (bytes : AreBytes table) (line : Line) where
   abbrev block : List ℕ
   block = technique_block b
 
-  dust_balances : (row : Row) (dust : Dust) → row_of b line.key ≡ Hit row → SmallDust dust → Moderate line → line.reuse ≤ whole_share
+  dust_balances : (row : Row) (dust : Option ℕ) → row_of b line.key ≡ Hit row → SmallDust dust → Moderate line → line.reuse ≤ whole_share
       → Balances (by_dust block row line dust)
-  dust_balances row NoEntry e small moderate reuse = tt
-  dust_balances row (Escapes F) e small moderate reuse =
+  dust_balances row None e small moderate reuse = tt
+  dust_balances row (Some F) e small moderate reuse =
       let g = hit_good b line.key row good e in
       treatment_balances row line F (treatment_of block row line.technique line.reading) (generated_small row line g.coefficient moderate) small
       (treatment_admissible line.reuse reuse block row g line.reading line.technique)
@@ -195,7 +185,7 @@ line_balances f right bytes i =
 -- ---- demand 2 of a line: D is not below the manual's exact value, worked from the line's own numbers, and less than two units above it
 
 pub line_sound : (b : List ℕ) (line : Line) (row : Row) (e n d : ℕ) → book_ok b ≡ true → line.reuse ≤ whole_share → row_of b line.key ≡ Hit row
-    → treatment_of (technique_block b) row line.technique line.reading ≡ By e n d → let G = generated_of row line in
+    → treatment_of (technique_block b) row line.technique line.reading ≡ treats e n d → let G = generated_of row line in
     Sound 2 (manual_value (whole G) (n over d) e line.reuse (in_water line)) (amounts_of G e n d line.reuse (in_water line))
 line_sound b line row e n d good reuse hit by =
     let g = hit_good b line.key row good hit in

@@ -6,8 +6,7 @@ use native.Mathlib.Omega.{arith}
 use lib.Dec.{eqb}
 use lib.ListN.{length}
 use borrow.Author.Tests.{eqb-false}
-use Rattle.search.specs.declared.found.Found.{Found}
-use Rattle.search.specs.declared.found.Found.TheVariants.{At, Nothing}
+use Rattle.std.specs.Prelude.{Option, Some, None, ⊤, Result, Ok, Err}
 use Rattle.search.proofs.LawTest.{either_way}
 use Rattle.headers.specs.Book.{technique_block}
 use Rattle.headers.specs.Sheet.{line_count}
@@ -23,15 +22,12 @@ use Rattle.desk.specs.Dust.{entry_index, dust_by, dust_of}
 use Rattle.desk.specs.Account.{by_technique, treatment_of, generated_of, by_treatment, by_dust, by_row, account_in, account_of, line_outcome}
 use Rattle.desk.specs.Table.{rows, total, table_of, by_files, by_lines, answer_of, cells_after}
 use Rattle.desk.specs.Declare.{shown_after, Declared}
+use Rattle.desk.specs.declared.cells.TableRow.{TableRow}
 use Rattle.desk.specs.declared.line.Line.{Line}
-use Rattle.desk.specs.declared.dust.Dust.{Dust}
-use Rattle.desk.specs.declared.dust.Dust.TheVariants.{Escapes, NoEntry}
 use Rattle.desk.specs.declared.row.Row.{Row}
 use Rattle.desk.specs.declared.account.Treatment.{Treatment}
-use Rattle.desk.specs.declared.account.Treatment.TheVariants.{By, NoTreatment}
-use Rattle.desk.specs.declared.account.LineOutcome.{LineOutcome}
-use Rattle.answers.specs.declared.answer.Outcome.{Outcome}
-use Rattle.answers.specs.declared.answer.Outcome.TheVariants.{Accepted, RefusedFile, RefusedLine}
+use Rattle.answers.specs.declared.answer.LineFault.{LineFault}
+use Rattle.answers.specs.declared.answer.Refusal.{Refusal}
 use Rattle.desk.proofs.LawDemands.{declared}
 
 -- ---- a line
@@ -50,27 +46,27 @@ with_reading line reading =
     }
 
 -- what a treatment makes of the line does not depend on the reading
-made_alike : (row : Row) (line : Line) (one other : Reading) (F : ℕ) (k : Treatment)
+made_alike : (row : Row) (line : Line) (one other : Reading) (F : ℕ) (k : Result Treatment LineFault)
     → by_treatment row (with_reading line one) F k ≡ by_treatment row (with_reading line other) F k
 unfolding generated_of
-made_alike row line one other F (NoTreatment fault) = refl
-made_alike row line one other F (By e n d) = refl
+made_alike row line one other F (Err fault) = refl
+made_alike row line one other F (Ok k) = refl
 
 -- nor does what escapes
-place_alike : (f : List ℕ) (line : Line) (one other : Reading) (place : Found)
+place_alike : (f : List ℕ) (line : Line) (one other : Reading) (place : Option ℕ)
     → dust_by f (with_reading line one) place ≡ dust_by f (with_reading line other) place
-place_alike f line one other Nothing = refl
-place_alike f line one other (At i) = refl
+place_alike f line one other None = refl
+place_alike f line one other (Some i) = refl
 
 dust_alike : (f : List ℕ) (line : Line) (one other : Reading) → dust_of f (with_reading line one) ≡ dust_of f (with_reading line other)
 unfolding dust_of
 dust_alike f line one other = rw (place_alike f line one other (entry_index f line.key))
 
 module _ (t : List ℕ) (row : Row) (one other : Reading) where
-  pub technique_alike : share_by one row.rule ≡ share_by other row.rule → (place : Found)
+  pub technique_alike : share_by one row.rule ≡ share_by other row.rule → (place : Option ℕ)
       → by_technique t row one place ≡ by_technique t row other place
-  technique_alike alike Nothing = refl
-  technique_alike alike (At j) = rw alike
+  technique_alike alike None = refl
+  technique_alike alike (Some j) = rw alike
 
   -- technique 0 looks at no reading
   treatment_alike : (technique : ℕ) → ((technique ≡ 0 → ⊥) → share_by one row.rule ≡ share_by other row.rule)
@@ -86,10 +82,10 @@ module _ (b f : List ℕ) (line : Line) (one other : Reading)
   abbrev block : List ℕ
   block = technique_block b
 
-  escaped_alike : (row : Row) → row_of b line.key ≡ Hit row → (dust : Dust)
+  escaped_alike : (row : Row) → row_of b line.key ≡ Hit row → (dust : Option ℕ)
       → by_dust block row (with_reading line one) dust ≡ by_dust block row (with_reading line other) dust
-  escaped_alike row e NoEntry = refl
-  escaped_alike row e (Escapes F) =
+  escaped_alike row e None = refl
+  escaped_alike row e (Some F) =
       let same = treatment_alike block row one other line.technique (alike row e) in
       rw (same, made_alike row line one other F (treatment_of block row line.technique other))
 
@@ -110,7 +106,7 @@ account_alike from line one other alike = one_book_alike (book_for from line.key
 
 -- ---- lines that answer alike
 
-module _ (l m : ℕ → LineOutcome) where
+module _ (l m : ℕ → Result TableRow LineFault) where
   rows_alike : (n : ℕ) → ((i : ℕ) → i < n → l i ≡ m i) → rows n l ≡ rows n m
   unfolding rows
   rows_alike zero each = refl
@@ -145,20 +141,18 @@ module _ (from : Sources) (s s' : List ℕ) (right : sheet_ok s ≡ sheet_ok s')
       ∙ ap (λ (n : ℕ). table_of n (line_outcome (lent from s'))) count
 
   module _ (unit : unit_of_sheet s ≡ unit_of_sheet s') where
-    exact_after : (r : Outcome) (cells : List ℕ)
+    exact_after : (r : Result ⊤ Refusal) (cells : List ℕ)
         → cells_after r (line_count s) (line_outcome (lent from s)) cells ≡ cells_after r (line_count s') (line_outcome (lent from s')) cells
     unfolding cells_after
-    exact_after Accepted cells = rw (tables_alike, count)
-    exact_after (RefusedFile fault) cells = refl
-    exact_after (RefusedLine fault line) cells = refl
+    exact_after (Ok _) cells = rw (tables_alike, count)
+    exact_after (Err refused) cells = refl
 
-    pub shown_alike : (r : Outcome) (cells : List ℕ) → shown_after r (lent from s) cells ≡ shown_after r (lent from s') cells
+    pub shown_alike : (r : Result ⊤ Refusal) (cells : List ℕ) → shown_after r (lent from s) cells ≡ shown_after r (lent from s') cells
     unfolding shown_after
-    shown_alike Accepted cells = rw (tables_alike, unit, count)
-    shown_alike (RefusedFile fault) cells = refl
-    shown_alike (RefusedLine fault line) cells = refl
+    shown_alike (Ok _) cells = rw (tables_alike, unit, count)
+    shown_alike (Err refused) cells = refl
 
-    pub declared_alike : (exact shown : List ℕ) (r : Outcome) (exact' shown' : List ℕ) → Declared (lent from s) exact shown r exact' shown'
+    pub declared_alike : (exact shown : List ℕ) (r : Result ⊤ Refusal) (exact' shown' : List ℕ) → Declared (lent from s) exact shown r exact' shown'
         → Declared (lent from s') exact shown r exact' shown'
     declared_alike exact shown r exact' shown' promised =
         let both = promised.tables in

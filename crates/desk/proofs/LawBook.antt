@@ -1,7 +1,7 @@
 -- What a good book says of its rows, and a right header of where rows, lines and entries lie.
 use Prim.Native.Nat.{ℕ, zero, suc, ◌+◌, ◌*◌, ◌≤◌, ◌<◌}
-use mathlib.Core.Bool.{Bool, true, false, ◌||◌, not}
-use mathlib.Core.Path.{◌≡◌, sym, ◌∙◌}
+use mathlib.Core.Bool.{true, false, ◌||◌, not}
+use mathlib.Core.Path.{◌≡◌}
 use mathlib.Core.List.{List}
 use native.Mathlib.Nat.{mul-suc, mul-le-mul_left}
 use native.Mathlib.Omega.{arith}
@@ -11,7 +11,7 @@ use borrow.Author.Tests.{leb-true, ltb-true, eqb-true, ne_eqb}
 use Rattle.amounts.specs.Line.{whole_share}
 use Rattle.little.specs.Read.{u32_at}
 use Rattle.search.specs.Test.{all}
-use Rattle.search.proofs.LawTest.{either_way, and_left, and_right, all_at, every_at}
+use Rattle.search.proofs.LawTest.{and_left, and_right, all_at, every_at}
 use Rattle.search.proofs.LawCut.{rising}
 use Rattle.headers.specs.House.{file_ok}
 use Rattle.headers.specs.Book.{book_header, book_fits, row_count, technique_count, most_rows, most_techniques, technique_size, book_header_ok, technique_block}
@@ -24,10 +24,6 @@ use Rattle.fugitive.specs.Table.{fugitive_header, fugitive_header_size, entry_co
 use Rattle.desk.specs.Entries.{entries_ok, fugitive_ok}
 use Rattle.desk.specs.Inner.{Listed, RowIn, LineIn, EntryIn}
 use Rattle.desk.proofs.LawRun.{ok_rises}
-
--- a loop over n that stops at a number where the test fails
-pub all_stopped : (p : ℕ → Bool) (n i : ℕ) → i < n → p i ≡ false → all n p ≡ false
-all_stopped p n i l h = either_way (all n p) (λ a. let z : true ≡ false = sym (all_at p n i a l) ∙ h in cc) (λ a. a)
 
 -- the power of ten is one of these
 pub record Power (unit places : ℕ) : Type 0 where

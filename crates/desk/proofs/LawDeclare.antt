@@ -9,13 +9,15 @@ use native.Mathlib.Nat.{le_of_suc-le-suc, eq-or-lt_of_le, div-add-mod', mod-lt, 
 use lib.ListN.{length, take, drop, replicate, length-append, get_or-append}
 use lib.Seq.{get_or-append-add, take_at, drop_at}
 use lib.Dec.{eqb, lit<, lit≤}
+use Rattle.std.specs.Prelude.{⊤, Result, Ok, Err}
 use Rattle.little.specs.Read.{AreBytes}
-use Rattle.settle.specs.Grid.{Grid, area}
+use Rattle.settle.specs.declared.Grid.{Grid}
+use Rattle.settle.specs.Grid.{area}
 use Rattle.settle.specs.Shown.{at, Whole, sum, Sums, Shown}
 use Rattle.settle.specs.Table.{limit, Good}
 use Rattle.settle.specs.Step.{shown_table}
 use Rattle.settle.specs.Answer.{AnswersShow}
-use Rattle.settle.specs.declared.Settled.{Settled}
+use Rattle.settle.specs.declared.Unsettled.{Unsettled}
 use Rattle.settle.proofs.LawAnswer.{showing}
 use Rattle.settle.proofs.LawShown.{shown_length, shown_law, shown_more}
 use Rattle.desk.specs.Lent.{Lent}
@@ -28,9 +30,9 @@ use Rattle.headers.specs.Unit.{gram, kilogram, tonne, unit_of, unit_of_sheet}
 use Rattle.desk.specs.Demands.{table_grid, Demand3}
 use Rattle.desk.specs.Declare.{shown_after, BothAfter}
 use Rattle.desk.specs.Inner.{Right, Showable, shown_over}
-use Rattle.answers.specs.declared.answer.Outcome.{Outcome}
-use Rattle.answers.specs.declared.answer.Outcome.TheVariants.{Accepted, RefusedFile, RefusedLine}
-use Rattle.desk.specs.declared.account.LineOutcome.{LineOutcome}
+use Rattle.answers.specs.declared.answer.Refusal.{Refusal}
+use Rattle.answers.specs.declared.answer.LineFault.{LineFault}
+use Rattle.desk.specs.declared.cells.TableRow.{TableRow}
 use Rattle.desk.proofs.LawAccount.{Balances, line_most, line_balances}
 use Rattle.desk.proofs.LawColumns.{zip, zip_at, zeros_at, Balanced, balanced_cell, balanced_wider, row_adds_up_lem}
 use Rattle.desk.proofs.LawTable.{length_rows, line_balanced, total_balanced, lines_few}
@@ -56,7 +58,7 @@ pub record RowIs (t : List ℕ) (i : ℕ) : Type 0 where
   pub balanced : Balanced width (line_most * most_lines) cells
   pub stands : (j : ℕ) → j < width → at t (i * width + j) ≡ at cells j
 
-module _ (l : ℕ → LineOutcome) where
+module _ (l : ℕ → Result TableRow LineFault) where
   pub line_cell : (n i j : ℕ) (rest : List ℕ) → i < n → j < width → at (rows n l ++ rest) (i * width + j) ≡ at (cells_of (row_given (l i))) j
   unfolding rows
   line_cell zero i j rest h k = absurd (omega arith)
@@ -139,13 +141,13 @@ module _ (l : ℕ → LineOutcome) where
 
 -- ---- the shown cells
 
-pub settled_cells : {g : Grid} {t lent lent' : List ℕ} {r : Settled} (m : ℕ) → Good g t → m ≡ area g → m ≤ length lent
+pub settled_cells : {g : Grid} {t lent lent' : List ℕ} {r : Result ℕ Unsettled} (m : ℕ) → Good g t → m ≡ area g → m ≤ length lent
     → AnswersShow g t lent lent' r → lent' ≡ shown_table g t ++ drop m lent
 settled_cells {g} {t} {lent} m good e h a =
     (showing good (omega arith) a).cells ∙ ap (λ (k : ℕ). shown_table g t ++ drop k lent) (sym e)
 
 -- the accepted cells begin with the table
-pub first_cells : (n : ℕ) (l : ℕ → LineOutcome) (cells after : List ℕ) → after ≡ cells_after Accepted n l cells
+pub first_cells : (n : ℕ) (l : ℕ → Result TableRow LineFault) (cells after : List ℕ) → after ≡ cells_after (Ok tt) n l cells
     → take (table_size n) after ≡ table_of n l
 unfolding cells_after
 first_cells n l cells after e = rw e (take_at (table_of n l) (drop (table_size n) cells) (table_size n) (omega (arith, table_size_lem l n)))
@@ -162,7 +164,7 @@ module _ (f : Lent) (good : Right f.sources) (bytes : AreBytes f.sources.fugitiv
   settles = can_be_settled (line_outcome f) (line_count f.sheet) (line_balances f good bytes) few (sheet_header f.sheet).shown_unit
 
   module _ (n W : ℕ) (exact exact' : List ℕ) (e : n ≡ line_count f.sheet) (u : W ≡ unit_of_sheet f.sheet)
-      (a : exact' ≡ cells_after Accepted (line_count f.sheet) (line_outcome f) exact) where
+      (a : exact' ≡ cells_after (Ok tt) (line_count f.sheet) (line_outcome f) exact) where
     here : take (table_size n) exact' ≡ table_of (line_count f.sheet) (line_outcome f)
     here = rw e (first_cells (line_count f.sheet) (line_outcome f) exact exact' a)
 
@@ -180,11 +182,11 @@ module _ (f : Lent) (good : Right f.sources) (bytes : AreBytes f.sources.fugitiv
 
     module _ (shown shown' : List ℕ) (s : shown' ≡ shown_over W n exact' shown) where
       -- what it gives
-      is_shown : shown' ≡ shown_after Accepted f shown
+      is_shown : shown' ≡ shown_after (Ok tt) f shown
       unfolding shown_after
       is_shown = rw (here, u, e) at s
 
-      pub tables_shown : BothAfter f exact shown Accepted exact' shown'
+      pub tables_shown : BothAfter f exact shown (Ok tt) exact' shown'
       tables_shown = record { table = a; shows = is_shown }
 
       pub past_kept_lem : drop (table_size (line_count f.sheet)) shown' ≡ drop (table_size (line_count f.sheet)) shown
@@ -206,10 +208,9 @@ module _ (f : Lent) (good : Right f.sources) (bytes : AreBytes f.sources.fugitiv
           let law = shown_more settles table past (shown_length settles) (shown_law settles) in
           rw (a, is_shown) (shown_over_lem g t (drop (table_size lines) exact) (table ++ past) (table_size_lem (line_outcome f) lines) law)
 
-pub both_refused : (f : Lent) (r : Outcome) (exact shown exact' shown' : List ℕ) → r ≢ Accepted
+pub both_refused : (f : Lent) (r : Result ⊤ Refusal) (exact shown exact' shown' : List ℕ) → r ≢ Ok tt
     → exact' ≡ cells_after r (line_count f.sheet) (line_outcome f) exact → shown' ≡ replicate (length shown) 0
     → BothAfter f exact shown r exact' shown'
 unfolding shown_after
-both_refused f Accepted exact shown exact' shown' refused e s = absurd (refused refl)
-both_refused f (RefusedFile fault) exact shown exact' shown' refused e s = record { table = e; shows = s }
-both_refused f (RefusedLine fault line) exact shown exact' shown' refused e s = record { table = e; shows = s }
+both_refused f (Ok _) exact shown exact' shown' refused e s = absurd (refused refl)
+both_refused f (Err fault) exact shown exact' shown' refused e s = record { table = e; shows = s }

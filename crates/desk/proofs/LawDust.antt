@@ -7,9 +7,8 @@ use mathlib.Core.List.{List, [], ◌∷◌, ◌++◌}
 use native.Mathlib.Omega.{arith}
 use lib.Dec.{ltb}
 use lib.ListN.{replicate}
+use Rattle.std.specs.Prelude.{Option, Some, None, ⊤, Result, Ok, Err}
 use Rattle.search.specs.First.{first}
-use Rattle.search.specs.declared.found.Found.{Found}
-use Rattle.search.specs.declared.found.Found.TheVariants.{At, Nothing}
 use Rattle.amounts.specs.Line.{whole_share}
 use Rattle.settle.specs.Shown.{at, sum}
 use Rattle.settle.specs.Table.{limit}
@@ -37,18 +36,15 @@ use Rattle.desk.specs.Table.{by_published, by_sources, by_files}
 use Rattle.desk.specs.Demands.{LineDemand}
 use Rattle.desk.specs.Declare.{Declared}
 use Rattle.desk.specs.Inner.{most_dust}
-use Rattle.desk.specs.declared.dust.Dust.{Dust}
-use Rattle.desk.specs.declared.dust.Dust.TheVariants.{Escapes, NoEntry}
 use Rattle.desk.specs.declared.key.Key.{Key}
 use Rattle.desk.specs.declared.line.Line.{Line}
 use Rattle.desk.specs.declared.row.Row.{Row}
 use Rattle.desk.specs.declared.books.RowPlace.{RowPlace}
-use Rattle.desk.specs.declared.books.RowPlace.TheVariants.{InOwn, InPublished, InNeither}
-use Rattle.desk.specs.declared.account.LineOutcome.TheVariants.{Refusal}
+use Rattle.desk.specs.declared.books.RowPlace.TheVariants.{InOwn, InPublished}
 use Rattle.answers.specs.declared.answer.LineFault.TheVariants.{BadGrade, NoRow, NoFugitiveEntry}
 use Rattle.answers.specs.declared.answer.FileFault.TheVariants.{BookMalformed, FugitiveMalformed}
-use Rattle.answers.specs.declared.answer.Outcome.{Outcome}
-use Rattle.answers.specs.declared.answer.Outcome.TheVariants.{Accepted, RefusedFile}
+use Rattle.answers.specs.declared.answer.Refusal.{Refusal}
+use Rattle.answers.specs.declared.answer.Refusal.TheVariants as refusal
 use Rattle.desk.proofs.LawAccount.{line_most}
 
 -- ---- how much
@@ -65,30 +61,30 @@ pub record SameDust (one other : Line) : Type 0 where
   pub product : one.product ≡ other.product
   pub grades : one.grades ≡ other.grades
 
-place_same : (f : List ℕ) (one other : Line) (place : Found) → SameDust one other → dust_by f one place ≡ dust_by f other place
-place_same f one other Nothing s = refl
-place_same f one other (At i) s = rw (s.product, s.grades)
+place_same : (f : List ℕ) (one other : Line) (place : Option ℕ) → SameDust one other → dust_by f one place ≡ dust_by f other place
+place_same f one other None s = refl
+place_same f one other (Some i) s = rw (s.product, s.grades)
 
 dust_same : (f : List ℕ) (one other : Line) → SameDust one other → dust_of f one ≡ dust_of f other
 unfolding dust_of
 dust_same f one other s =
     let place = entry_index f other.key in
-    ap (λ (k : Key). cond (is_given one.grades) (dust_by f one (entry_index f k)) (Escapes 0)) s.key
-    ∙ ap (λ (d : Dust). cond (is_given one.grades) d (Escapes 0)) (place_same f one other place s)
-    ∙ ap (λ (g : Grades). cond (is_given g) (dust_by f other place) (Escapes 0)) s.grades
+    ap (λ (k : Key). cond (is_given one.grades) (dust_by f one (entry_index f k)) (Some 0)) s.key
+    ∙ ap (λ (d : Option ℕ). cond (is_given one.grades) d (Some 0)) (place_same f one other place s)
+    ∙ ap (λ (g : Grades). cond (is_given g) (dust_by f other place) (Some 0)) s.grades
 
 -- one that sends F through the filter, or works it from material: F is the same whatever technique, reading, reuse and material a line has
 pub dust_untreated : (from : Sources) (one other : Line) (G R U D F G' R' U' D' F' : ℕ) → SameDust one other
     → LineDemand from one G R U D F → LineDemand from other G' R' U' D' F' → F ≡ F'
 dust_untreated from one other G R U D F G' R' U' D' F' s p q =
-    let e : Escapes F ≡ Escapes F' = sym p.escapes ∙ dust_same from.fugitive one other s ∙ q.escapes in cc
+    let e : Some F ≡ Some F' = sym p.escapes ∙ dust_same from.fugitive one other s ∙ q.escapes in cc
 
 -- one that does not raise G: where something escapes, G is above R + U + D
 pub generated_raised : (from : Sources) (line : Line) (G R U D F : ℕ) → LineDemand from line G R U D F → 0 < F → R + U + D < G
 generated_raised from line G R U D F p some = omega (arith, p.adds)
 
 -- one that leaves the fifth column out of the shown sums
-pub fifth_column_shown : (f : Lent) (exact shown : List ℕ) (r : Outcome) (x y : List ℕ) → Declared f exact shown r x y → r ≡ Accepted
+pub fifth_column_shown : (f : Lent) (exact shown : List ℕ) (r : Result ⊤ Refusal) (x y : List ℕ) → Declared f exact shown r x y → r ≡ Ok tt
     → (i : ℕ) → i < line_count f.sheet + 1 → let G = i * width in at y G ≡ at y (G + 1) + at y (G + 2) + at y (G + 3) + at y (G + 4)
 unfolding sum
 fifth_column_shown f exact shown r x y p accepted i h =
@@ -102,14 +98,14 @@ fifth_column_shown f exact shown r x y p accepted i h =
 -- ---- which entry
 
 -- one that looks for scale 0 first: an entry for the line's own scale is the one
-pub own_scale_first : (f : List ℕ) (k : Key) (i : ℕ) → first (entry_count f) (entry_has f k) ≡ At i → entry_index f k ≡ At i
+pub own_scale_first : (f : List ℕ) (k : Key) (i : ℕ) → first (entry_count f) (entry_has f k) ≡ Some i → entry_index f k ≡ Some i
 unfolding entry_index
 own_scale_first f k i own = rw own
 
 -- ---- a line without grades
 
 -- one that wants an entry for it: no entry is looked for, nothing escapes, and it is accounted for alike whatever the table
-pub ungraded_escapes_none : (f : List ℕ) (line : Line) → is_given line.grades ≡ false → dust_of f line ≡ Escapes 0
+pub ungraded_escapes_none : (f : List ℕ) (line : Line) → is_given line.grades ≡ false → dust_of f line ≡ Some 0
 unfolding dust_of
 ungraded_escapes_none f line none-given = rw none-given
 
@@ -125,46 +121,46 @@ ungraded_alike own book one other line none-given = by_place (row_place own book
     in_book : (b : List ℕ) → account_in b one line ≡ account_in b other line
     in_book b = rw (by_row_lem b (row_of b line.key))
 
-    by_place : (place : RowPlace) → account_in (book_at (sources own book one) place) one line ≡ account_in (book_at (sources own book other) place) other line
-    by_place (InOwn i) = in_book own
-    by_place (InPublished i) = in_book book
-    by_place InNeither = in_book book
+    by_place : (place : Option RowPlace) → account_in (book_at (sources own book one) place) one line ≡ account_in (book_at (sources own book other) place) other line
+    by_place (Some (InOwn i)) = in_book own
+    by_place (Some (InPublished i)) = in_book book
+    by_place None = in_book book
 
 -- ---- the order of refusals: 1, 13, then the sheet; of a line 4, 5, 15, 6, 14, 7
 
 module _ (from : Sources) where
   -- one that looks at the table before a book
-  pub book_before_table : book_ok from.own ≡ true → book_ok from.book ≡ false → by_sources from ≡ RefusedFile BookMalformed
+  pub book_before_table : book_ok from.own ≡ true → book_ok from.book ≡ false → by_sources from ≡ Err (refusal.File BookMalformed)
   unfolding by_sources by_published
   book_before_table right wrong = rw (right, wrong)
 
   -- one that looks at the sheet or the room before the table
   pub table_before_sheet : book_ok from.own ≡ true → book_ok from.book ≡ true → fugitive_ok from.fugitive ≡ false
-      → (sheet : List ℕ) (room : ℕ) → by_files (record { sources = from; sheet = sheet }) room ≡ RefusedFile FugitiveMalformed
+      → (sheet : List ℕ) (room : ℕ) → by_files (record { sources = from; sheet = sheet }) room ≡ Err (refusal.File FugitiveMalformed)
   unfolding by_files by_sources by_published
   table_before_sheet own published wrong sheet room = rw (own, published, wrong)
 
   -- a line that keeps rules 4 and 5
   module _ (line : Line) (moderate : excessive line ≡ false) (reuse : ltb whole_share line.reuse ≡ false) where
     -- one that looks for the row before it looks at the grades
-    pub grades_before_row : misgraded line ≡ true → account_of from line ≡ Refusal BadGrade
+    pub grades_before_row : misgraded line ≡ true → account_of from line ≡ Err BadGrade
     unfolding account_of account_in
     grades_before_row bad = rw (moderate, reuse, bad)
 
     -- one that takes a grade in water, or in any medium but gas
-    pub graded_in_gas_alone : is_given line.grades ≡ true → (line.key.medium ≡ gas → ⊥) → account_of from line ≡ Refusal BadGrade
+    pub graded_in_gas_alone : is_given line.grades ≡ true → (line.key.medium ≡ gas → ⊥) → account_of from line ≡ Err BadGrade
     graded_in_gas_alone given other =
         grades_before_row (graded_elsewhere line.grades line.key.medium line.key.pollutant given other)
 
     module _ (taken : misgraded line ≡ false) where
       -- one that looks for the entry before the row
-      pub row_before_entry : row_of (book_for from line.key) line.key ≡ Miss → account_of from line ≡ Refusal NoRow
+      pub row_before_entry : row_of (book_for from line.key) line.key ≡ Miss → account_of from line ≡ Err NoRow
       unfolding account_of account_in
       row_before_entry none = rw (moderate, reuse, taken, none)
 
       -- one that looks at the technique or the reading before the entry
-      pub entry_before_technique : (row : Row) → row_of (book_for from line.key) line.key ≡ Hit row → dust_of from.fugitive line ≡ NoEntry
-          → account_of from line ≡ Refusal NoFugitiveEntry
+      pub entry_before_technique : (row : Row) → row_of (book_for from line.key) line.key ≡ Hit row → dust_of from.fugitive line ≡ None
+          → account_of from line ≡ Err NoFugitiveEntry
       unfolding account_of account_in
       entry_before_technique row hit none = rw (moderate, reuse, taken, hit, none)
 

@@ -4,12 +4,12 @@ use mathlib.Core.List.{List, [], ◌∷◌}
 use mathlib.Core.Logic.{◌≢◌}
 use Prim.Native.Nat.{ℕ}
 use native.Mathlib.Nat.{mul-one}
+use Rattle.std.specs.Prelude.{⊤, Result, Ok, Err}
 use Rattle.search.proofs.LawTest.{clash}
 use Rattle.little.specs.Part.{part_of}
 use Rattle.little.proofs.LawPart.{runs_decide}
 use Rattle.answers.specs.Answer.{code_of}
-use Rattle.answers.specs.declared.bundle.BundleOutcome.{BundleOutcome}
-use Rattle.answers.specs.declared.bundle.BundleOutcome.TheVariants.{Taken, BundleMalformed, ResultTooShort}
+use Rattle.answers.specs.declared.bundle.BundleFault.{BundleFault}
 use Rattle.bundle.specs.Bundle.{sheet_count, cells_per_sheet}
 use Rattle.desk.specs.Lent.{Sources, Lent}
 use Rattle.headers.specs.Sheet.{line_count}
@@ -17,20 +17,20 @@ use Rattle.desk.specs.Account.{line_outcome}
 use Rattle.desk.specs.Table.{cells_after, ExactTable}
 use Rattle.desk.specs.Declare.{shown_after, Declared}
 use Rattle.desk.specs.Works.{Results, run_of, AsAlone, SheetBySheet, AllZero, BundleDeclared}
-use Rattle.answers.specs.declared.answer.Outcome.{Outcome}
+use Rattle.answers.specs.declared.answer.Refusal.{Refusal}
 
-pub exact_table_once : (f : Lent) (cells : List ℕ) (r q : Outcome) (x y : List ℕ) → ExactTable f cells r x → ExactTable f cells q y
+pub exact_table_once : (f : Lent) (cells : List ℕ) (r q : Result ⊤ Refusal) (x y : List ℕ) → ExactTable f cells r x → ExactTable f cells q y
     → (r ≡ q) × (x ≡ y)
 exact_table_once f cells r q x y p h =
     let e : r ≡ q = p.answer ∙ sym h.answer in
-    (e, p.table ∙ ap (λ (o : Outcome). cells_after o (line_count f.sheet) (line_outcome f) cells) e ∙ sym h.table)
+    (e, p.table ∙ ap (λ (o : Result ⊤ Refusal). cells_after o (line_count f.sheet) (line_outcome f) cells) e ∙ sym h.table)
 
-pub declared_once : (f : Lent) (exact shown : List ℕ) (r q : Outcome) (x x' y y' : List ℕ) → Declared f exact shown r x y
+pub declared_once : (f : Lent) (exact shown : List ℕ) (r q : Result ⊤ Refusal) (x x' y y' : List ℕ) → Declared f exact shown r x y
     → Declared f exact shown q x' y' → (r ≡ q) × (x ≡ x') × (y ≡ y')
 declared_once f exact shown r q x x' y y' p h =
     let e : r ≡ q = p.demand1.answer ∙ sym h.demand1.answer in
-    let table = ap (λ (o : Outcome). cells_after o (line_count f.sheet) (line_outcome f) exact) e in
-    let shows = ap (λ (o : Outcome). shown_after o f shown) e in
+    let table = ap (λ (o : Result ⊤ Refusal). cells_after o (line_count f.sheet) (line_outcome f) exact) e in
+    let shows = ap (λ (o : Result ⊤ Refusal). shown_after o f shown) e in
     (e, p.tables.table ∙ table ∙ sym h.tables.table, p.tables.shows ∙ shows ∙ sym h.tables.shows)
 
 -- ---- a whole works: by every sheet's runs and outcome, and what lies past them
@@ -44,7 +44,7 @@ module _ (from : Sources) (bundle : List ℕ) (before : Results) where
       × (part_of x.outcomes i 1 ≡ part_of y.outcomes i 1)
   sheet_once i x y p q =
       let same = declared_once _ _ _ _ _ _ _ _ _ p.declared q.declared in
-      (same.1, same.2, p.outcome ∙ ap (λ (o : Outcome). code_of o ∷ []) same.0 ∙ sym q.outcome)
+      (same.1, same.2, p.outcome ∙ ap (λ (o : Result ⊤ Refusal). code_of o ∷ []) same.0 ∙ sym q.outcome)
 
   taken_once : (x y : Results) → SheetBySheet from bundle before x → SheetBySheet from bundle before y → x ≡ y
   taken_once x y p q =
@@ -59,16 +59,13 @@ module _ (from : Sources) (bundle : List ℕ) (before : Results) where
   zeros_once x y p q = same_results x y (p.exact ∙ sym q.exact) (p.shown ∙ sym q.shown) (p.outcomes ∙ sym q.outcomes)
 
   module _ (x y : Results) where
-    cells_once : (r : BundleOutcome) → BundleDeclared from bundle before r x → BundleDeclared from bundle before r y → x ≡ y
-    cells_once Taken p q = taken_once x y (p.taken refl) (q.taken refl)
-    cells_once BundleMalformed p q =
-        let no : BundleMalformed ≢ Taken = λ e. clash (cc) in
-        zeros_once x y (p.refused no) (q.refused no)
-    cells_once ResultTooShort p q =
-        let no : ResultTooShort ≢ Taken = λ e. clash (cc) in
+    cells_once : (r : Result ⊤ BundleFault) → BundleDeclared from bundle before r x → BundleDeclared from bundle before r y → x ≡ y
+    cells_once (Ok _) p q = taken_once x y (p.taken refl) (q.taken refl)
+    cells_once (Err fault) p q =
+        let no : ◌≢◌ {A = Result ⊤ BundleFault} (Err fault) (Ok tt) = λ e. clash (cc) in
         zeros_once x y (p.refused no) (q.refused no)
 
-    pub bundle_declared_once : (r q : BundleOutcome) → BundleDeclared from bundle before r x → BundleDeclared from bundle before q y
+    pub bundle_declared_once : (r q : Result ⊤ BundleFault) → BundleDeclared from bundle before r x → BundleDeclared from bundle before q y
         → (r ≡ q) × (x ≡ y)
     bundle_declared_once r q p h =
         let e : q ≡ r = h.answer ∙ sym p.answer in

@@ -8,14 +8,15 @@ use native.Mathlib.Nat.{eq-or-lt_of_le}
 use native.Mathlib.Omega.{arith}
 use borrow.Author.Tests.{ltb-true, eqb-true, lt-ltb, le-ltb, eq-eqb, ne_eqb}
 use lib.Dec.{ltb, eqb}
+use Rattle.std.specs.Prelude.{Some, None}
 use Rattle.little.specs.Read.{u16_at}
 use Rattle.search.specs.First.{first}
-use Rattle.search.specs.InnerOrder.{and_then, list_order, is_before, is_same}
-use Rattle.search.specs.Order.{order_of}
+use Rattle.search.specs.InnerCut.{Falls}
+use Rattle.search.specs.InnerOrder.{list_order}
+use Rattle.std.specs.Ordering.{ordering_then, is_lt, is_eq}
 use Rattle.search.specs.Test.{every}
-use Rattle.search.specs.declared.found.Found.TheVariants.{At, Nothing}
-use Rattle.search.specs.declared.order.Order.{Order}
-use Rattle.search.specs.declared.order.Order.TheVariants.{Before, Same, After}
+use Rattle.std.specs.declared.cmp.Ordering.{Ordering}
+use Rattle.std.specs.declared.cmp.Ordering.TheVariants.{Less, Equal, Greater}
 use Rattle.search.proofs.LawTest.{either_way, and_left, and_right, all_at, every_at}
 use Rattle.search.proofs.LawFirst.{first_start, first_here, first_rest}
 use Rattle.search.proofs.LawCut.{rising}
@@ -29,7 +30,7 @@ use Rattle.desk.specs.Book.{row_start, key_at, rises, row_ok, book_ok}
 use Rattle.desk.specs.Row.{row_has}
 use Rattle.desk.specs.Entries.{entry_key, entry_rises, entries_ok, fugitive_ok}
 use Rattle.desk.specs.Dust.{entry_has}
-use Rattle.desk.specs.Inner.{at_scale, code_fields, rest_fields, codes_at, key_order, row_fits, OfDust}
+use Rattle.desk.specs.Inner.{at_scale, code_fields, rest_fields, codes_at, key_order, row_fits, OfDust, row_less}
 use Rattle.desk.specs.declared.key.Key.{Key}
 use Rattle.desk.proofs.LawBook.{row_good}
 
@@ -95,13 +96,13 @@ apart c a k p q =
 pub from_start : (b : List ℕ) (at x : ℕ) → x ≡ u16_at b (at + 0) → x ≡ u16_at b at
 from_start b at x h = let e : at + 0 ≡ at = omega arith in rw e at h
 
-before_is : (x y : List ℕ) → is_before (list_order x y) ≡ before x y
+before_is : (x y : List ℕ) → is_lt (list_order x y) ≡ before x y
 unfolding list_order
 before_is [] y = refl
 before_is (a ∷ x) [] = refl
 before_is (a ∷ x) (b ∷ y) = before_first a b x y ∙ ap (λ (t : Bool). ltb a b || eqb a b && t) (before_is x y)
 
-pub less_is : (a k : Key) → is_before (key_order a k) ≡ key_less a k
+pub less_is : (a k : Key) → is_lt (key_order a k) ≡ key_less a k
 unfolding key_order key_less
 less_is a k = before_is (key_fields a) (key_fields k)
 
@@ -111,7 +112,7 @@ alike [] y = true
 alike (a ∷ x) [] = true
 alike (a ∷ x) (b ∷ y) = eqb a b && alike x y
 
-alike_is : (x y : List ℕ) → is_same (list_order x y) ≡ alike x y
+alike_is : (x y : List ℕ) → is_eq (list_order x y) ≡ alike x y
 unfolding list_order
 alike_is [] y = refl
 alike_is (a ∷ x) [] = refl
@@ -127,7 +128,7 @@ regroup true true true true true false g = refl
 regroup true true true true true true false = refl
 regroup true true true true true true true = refl
 
-pub same_is : (a k : Key) → is_same (key_order a k) ≡ key_same a k
+pub same_is : (a k : Key) → is_eq (key_order a k) ≡ key_same a k
 unfolding key_order key_same every
 same_is a k =
     alike_is (key_fields a) (key_fields k)
@@ -138,10 +139,10 @@ same_is a k =
 less_other : (a k : Key) → key_less a k ≡ true → key_same a k ≡ false
 less_other a k h = sym (same_is a k) ∙ not_same (key_order a k) (less_is a k ∙ h)
   where
-    not_same : (o : Order) → is_before o ≡ true → is_same o ≡ false
-    not_same Before e = refl
-    not_same Same e = cc
-    not_same After e = cc
+    not_same : (o : Ordering) → is_lt o ≡ true → is_eq o ≡ false
+    not_same Less e = refl
+    not_same Equal e = cc
+    not_same Greater e = cc
 
 -- what stands before a key stands before every one that is the same
 same_less : (c a k : Key) → key_less c a ≡ true → key_same a k ≡ true → key_less c k ≡ true
@@ -149,30 +150,30 @@ unfolding key_less
 same_less c a k p s = sym (ap (λ (l : List ℕ). before (key_fields c) l) (same_fields a k s)) ∙ p
 
 -- the five codes decide, or leave it to the medium and the pollutant
-pub codes_then_rest : (a k : Key) → key_order a k ≡ and_then (list_order (code_fields a) (code_fields k)) (list_order (rest_fields a) (rest_fields k))
+pub codes_then_rest : (a k : Key) → key_order a k ≡ ordering_then (list_order (code_fields a) (code_fields k)) (list_order (rest_fields a) (rest_fields k))
 unfolding key_order
 codes_then_rest a k = order_joined (code_fields a) (rest_fields a) (code_fields k) (rest_fields k) refl
 
 -- so a row's order is found in two steps
 pub row_stands : (b : List ℕ) (at : ℕ) (k : Key) (scale : ℕ) → key_order (key_at b at) (at_scale k scale)
-    ≡ and_then (list_order (codes_at b at) (code_fields (at_scale k scale))) (list_order (rest_fields (key_at b at)) (rest_fields k))
+    ≡ ordering_then (list_order (codes_at b at) (code_fields (at_scale k scale))) (list_order (rest_fields (key_at b at)) (rest_fields k))
 unfolding key_from codes_at at_scale
 row_stands b at k scale = codes_then_rest (key_at b at) (at_scale k scale)
 
 -- ---- an entry's key, which is of particulates in gas, is told by its five codes
 
 pub entry_stands : (f : List ℕ) (at : ℕ) (k : Key) → OfDust k → key_order (key_from f at gas particulates) k ≡ list_order (codes_at f at) (code_fields k)
-unfolding key_from codes_at list_order order_of
+unfolding key_from codes_at list_order
 entry_stands f at k of =
     codes_then_rest (key_from f at gas particulates) k ∙ (rw (of.medium, of.pollutant) (left_alone (list_order (codes_at f at) (code_fields k))))
   where
-    left_alone : (o : Order) → and_then o Same ≡ o
-    left_alone Before = refl
-    left_alone Same = refl
-    left_alone After = refl
+    left_alone : (o : Ordering) → ordering_then o Equal ≡ o
+    left_alone Less = refl
+    left_alone Equal = refl
+    left_alone Greater = refl
 
 -- an entry that is compared where it stands, with another scale in the place of the key's own
-pub at_scale_stands : (f : List ℕ) (i : ℕ) (k : Key) (scale : ℕ) {from : ℕ} {o : Order} → OfDust k → from ≡ (fugitive_header f).offset
+pub at_scale_stands : (f : List ℕ) (i : ℕ) (k : Key) (scale : ℕ) {from : ℕ} {o : Ordering} → OfDust k → from ≡ (fugitive_header f).offset
     → list_order (codes_at f (from + entry_size * i)) (code_fields (at_scale k scale)) ≡ o → key_order (entry_key f i) (at_scale k scale) ≡ o
 unfolding entry_key at_scale
 at_scale_stands f i k scale of start h =
@@ -183,13 +184,13 @@ unfolding key_from at_scale
 dust_key f at key held = record { medium = ap (λ (k : Key). k.medium) held; pollutant = ap (λ (k : Key). k.pollutant) held }
 
 -- a key is held, and another is compared with it
-pub less_told : (a k : Key) {o : Order} → key_order a (at_scale k k.scale) ≡ o → is_before o ≡ key_less a k
+pub less_told : (a k : Key) {o : Ordering} → key_order a (at_scale k k.scale) ≡ o → is_lt o ≡ key_less a k
 unfolding at_scale
-less_told a k h = sym (ap is_before h) ∙ less_is a k
+less_told a k h = sym (ap is_lt h) ∙ less_is a k
 
 -- a row's key is held, and the row before it is compared with it
-pub rises_by : (b : List ℕ) (i at : ℕ) (key : Key) {o : Order} → (i ≡ 0 → ⊥) → at ≡ row_start b i → key ≡ key_at b at
-    → key_order (key_at b (at - (book_header b).row_size)) (at_scale key key.scale) ≡ o → is_before o ≡ rises b i
+pub rises_by : (b : List ℕ) (i at : ℕ) (key : Key) {o : Ordering} → (i ≡ 0 → ⊥) → at ≡ row_start b i → key ≡ key_at b at
+    → key_order (key_at b (at - (book_header b).row_size)) (at_scale key key.scale) ≡ o → is_lt o ≡ rises b i
 unfolding rises
 rises_by b i at key {o} some start held h =
     let back : at - (book_header b).row_size ≡ row_start b (i - 1) = omega (arith, start, some) in
@@ -206,38 +207,46 @@ module _ (key : ℕ → Key) (n : ℕ) (next : (j : ℕ) → suc j < n → key_l
   keys_rise : (i j : ℕ) → i < j → j < n → key_less (key i) (key j) ≡ true
   keys_rise = rising (λ i j. key_less (key i) (key j) ≡ true) (λ i j k. less_trans (key i) (key j) (key k)) n next
 
+  -- those that stand before a key come first
+  keys_fall : (k : Key) → Falls n (λ j. key_less (key j) k)
+  keys_fall k i j lt m e = less_trans (key i) (key j) k (keys_rise i j lt m) e
+
   -- which of them have this key
   module _ (k : Key) (has : ℕ → Bool) (is : (j : ℕ) → has j ≡ key_same (key j) k) (i : ℕ) (l : i < n) where
     -- one that stands before a key has it not, nor has any before that
-    earlier_other : key_order (key i) k ≡ Before → (j : ℕ) → j < i + 1 → has j ≡ false
+    earlier_other : key_order (key i) k ≡ Less → (j : ℕ) → j < i + 1 → has j ≡ false
     earlier_other h j m = is j ∙ at j (eq-or-lt_of_le (omega arith))
       where
         at : (j : ℕ) → (j ≡ i) ⊎ (j < i) → key_same (key j) k ≡ false
-        at j (inl q) = rw q (sym (same_is _ k) ∙ ap is_same h)
-        at j (inr m) = less_other (key j) k (less_trans _ _ k (keys_rise j i m l) (sym (less_is _ k) ∙ ap is_before h))
+        at j (inl q) = rw q (sym (same_is _ k) ∙ ap is_eq h)
+        at j (inr m) = less_other (key j) k (less_trans _ _ k (keys_rise j i m l) (sym (less_is _ k) ∙ ap is_lt h))
 
-    pub none_up_to : key_order (key i) k ≡ Before → first (i + 1) has ≡ Nothing
+    pub none_up_to : key_order (key i) k ≡ Less → first (i + 1) has ≡ None
     none_up_to h = first_rest has 0 (i + 1) (first_start _) (omega arith) (λ j z m. earlier_other h j m)
 
     -- one that has the key is the first
-    pub found_at : key_order (key i) k ≡ Same → At i ≡ first n has
+    pub found_at : key_order (key i) k ≡ Equal → Some i ≡ first n has
     found_at h = first_here has i n (first_rest has 0 i (first_start _) (omega arith) (λ j z m. is j ∙ before j m)) (is i ∙ same) l
       where
         same : key_same (key i) k ≡ true
-        same = sym (same_is _ k) ∙ ap is_same h
+        same = sym (same_is _ k) ∙ ap is_eq h
 
         before : (j : ℕ) → j < i → key_same (key j) k ≡ false
         before j m = less_other (key j) k (same_less (key j) (key i) k (keys_rise j i m l) same)
 
     -- one that stands after a key has it not, nor has any past it
-    pub later_other : key_order (key i) k ≡ After → (j : ℕ) → i ≤ j → j < n → has j ≡ false
+    pub later_other : key_order (key i) k ≡ Greater → (j : ℕ) → i ≤ j → j < n → has j ≡ false
     later_other h j z m = is j ∙ at j (eq-or-lt_of_le z) m
       where
         at : (j : ℕ) → (i ≡ j) ⊎ (i < j) → j < n → key_same (key j) k ≡ false
-        at j (inl q) m = rw (← q) (sym (same_is _ k) ∙ ap is_same h)
-        at j (inr lt) m = apart (key i) (key j) k (keys_rise i j lt m) (sym (less_is _ k) ∙ ap is_before h)
+        at j (inl q) m = rw (← q) (sym (same_is _ k) ∙ ap is_eq h)
+        at j (inr lt) m = apart (key i) (key j) k (keys_rise i j lt m) (sym (less_is _ k) ∙ ap is_lt h)
 
 -- ---- the rows of a good book
+
+pub row_less_told : (b : List ℕ) (i : ℕ) (k : Key) {at : ℕ} → at ≡ row_start b i → is_lt (key_order (key_at b at) k) ≡ row_less b k i
+unfolding row_less
+row_less_told b i k start = rw start (less_is (key_at b (row_start b i)) k)
 
 module _ (b : List ℕ) (good : book_ok b ≡ true) where
   row_rises : (j : ℕ) → suc j < row_count b → key_less (key_at b (row_start b j)) (key_at b (row_start b (suc j))) ≡ true
@@ -247,22 +256,31 @@ module _ (b : List ℕ) (good : book_ok b ≡ true) where
       let n : suc j - 1 ≡ j = omega arith in
       rw (ne_eqb (suc j) 0 (λ q. omega arith), n) at e
 
+  module _ (k : Key) where
+    pub rows_fall : Falls (row_count b) (row_less b k)
+    unfolding row_less
+    rows_fall = keys_fall (λ j. key_at b (row_start b j)) (row_count b) row_rises k
+
+    pub row_less_other : (j : ℕ) → row_less b k j ≡ true → row_has b k j ≡ false
+    unfolding row_less row_has
+    row_less_other j h = less_other (key_at b (row_start b j)) k h
+
   module _ (k : Key) (i : ℕ) (l : i < row_count b) where
-    abbrev stands : Order
+    abbrev stands : Ordering
     stands = key_order (key_at b (row_start b i)) k
 
     has : (j : ℕ) → row_has b k j ≡ key_same (key_at b (row_start b j)) k
     unfolding row_has
     has j = refl
 
-    pub passed : stands ≡ Before → first (i + 1) (row_has b k) ≡ Nothing
+    pub passed : stands ≡ Less → first (i + 1) (row_has b k) ≡ None
     passed = none_up_to (λ j. key_at b (row_start b j)) (row_count b) row_rises k (row_has b k) has i l
 
-    pub here : stands ≡ Same → At i ≡ first (row_count b) (row_has b k)
+    pub here : stands ≡ Equal → Some i ≡ first (row_count b) (row_has b k)
     here = found_at (λ j. key_at b (row_start b j)) (row_count b) row_rises k (row_has b k) has i l
 
     -- past a row that stands after a key no row has it
-    pub ended : first i (row_has b k) ≡ Nothing → stands ≡ After → Nothing ≡ first (row_count b) (row_has b k)
+    pub ended : first i (row_has b k) ≡ None → stands ≡ Greater → None ≡ first (row_count b) (row_has b k)
     ended none h =
         sym (first_rest (row_has b k) i (row_count b) none (omega arith) (later_other (λ j. key_at b (row_start b j)) (row_count b) row_rises k (row_has b k) has i l h))
 
@@ -281,18 +299,18 @@ module _ (f : List ℕ) (right : fugitive_ok f ≡ true) where
     unfolding entry_has
     entry_has_lem j = refl
 
-    pub entries_passed : key_order (entry_key f i) k ≡ Before → first (i + 1) (entry_has f k) ≡ Nothing
+    pub entries_passed : key_order (entry_key f i) k ≡ Less → first (i + 1) (entry_has f k) ≡ None
     entries_passed = none_up_to (entry_key f) (entry_count f) entry_rises_lem k (entry_has f k) entry_has_lem i l
 
-    pub entry_here : key_order (entry_key f i) k ≡ Same → At i ≡ first (entry_count f) (entry_has f k)
+    pub entry_here : key_order (entry_key f i) k ≡ Equal → Some i ≡ first (entry_count f) (entry_has f k)
     entry_here = found_at (entry_key f) (entry_count f) entry_rises_lem k (entry_has f k) entry_has_lem i l
 
-    pub entries_past : key_order (entry_key f i) k ≡ After → (j : ℕ) → i ≤ j → j < entry_count f → entry_has f k j ≡ false
+    pub entries_past : key_order (entry_key f i) k ≡ Greater → (j : ℕ) → i ≤ j → j < entry_count f → entry_has f k j ≡ false
     entries_past = later_other (entry_key f) (entry_count f) entry_rises_lem k (entry_has f k) entry_has_lem i l
 
 -- an entry's key is held, and the entry before it is compared with it, code by code
-pub entry_rises_by : (f : List ℕ) (i at : ℕ) (key : Key) {o : Order} → (i ≡ 0 → ⊥) → at ≡ entry_start f i → key ≡ key_from f at gas particulates
-    → list_order (codes_at f (at - entry_size)) (code_fields (at_scale key key.scale)) ≡ o → is_before o ≡ entry_rises f i
+pub entry_rises_by : (f : List ℕ) (i at : ℕ) (key : Key) {o : Ordering} → (i ≡ 0 → ⊥) → at ≡ entry_start f i → key ≡ key_from f at gas particulates
+    → list_order (codes_at f (at - entry_size)) (code_fields (at_scale key key.scale)) ≡ o → is_lt o ≡ entry_rises f i
 unfolding entry_rises entry_key
 entry_rises_by f i at key {o} some start held h =
     let back : at - entry_size ≡ entry_start f (i - 1) = omega (arith, start, some) in

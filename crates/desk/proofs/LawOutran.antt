@@ -4,10 +4,8 @@ use mathlib.Core.Path.{◌≡◌, sym, ◌∙◌}
 use mathlib.Core.List.{List}
 use lib.Ieee.{Float}
 use borrow.Author.Tests.{ne_eqb}
-use Rattle.search.specs.declared.found.Found.{Found}
-use Rattle.search.specs.declared.found.Found.TheVariants.{At, Nothing}
+use Rattle.std.specs.Prelude.{Option, Some, None, Ok}
 use Rattle.search.proofs.LawTest.{clash}
-use Rattle.amounts.specs.declared.reading.Taken.TheVariants.{Is}
 use Rattle.headers.specs.Book.{technique_block}
 use Rattle.shares.specs.Share.{hours_of, goes_with, share_of, share_by}
 use Rattle.shares.specs.declared.share.Reading.TheVariants.{Hours, Throughout}
@@ -17,24 +15,26 @@ use Rattle.desk.specs.Book.{technique_efficiency}
 use Rattle.desk.specs.Row.{Hit, row_of}
 use Rattle.desk.specs.Books.{book_for}
 use Rattle.desk.specs.Technique.{technique_index}
-use Rattle.desk.specs.Account.{by_technique, treatment_of, account_of}
+use Rattle.desk.specs.Account.{treats, by_technique, treatment_of, account_of}
 use Rattle.desk.specs.Demands.{LineDemand}
 use Rattle.desk.specs.declared.line.Line.{Line}
 use Rattle.desk.specs.declared.row.Row.{Row}
-use Rattle.desk.specs.declared.account.Treatment.TheVariants.{By}
+use Rattle.desk.specs.declared.account.Treatment.{Treatment}
+use Rattle.desk.proofs.LawAccount.{treats_parts}
 use Rattle.desk.proofs.LawAlike.{with_reading, technique_alike, account_alike}
 
 -- of a row by hours, 'ran throughout' makes k exactly 1
-throughout_k : (t : List ℕ) (row : Row) (place : Found) (e n d : ℕ) → row.rule ≡ 1 → by_technique t row Throughout place ≡ By e n d
+throughout_k : (t : List ℕ) (row : Row) (place : Option ℕ) (e n d : ℕ) → row.rule ≡ 1 → by_technique t row Throughout place ≡ treats e n d
     → (n ≡ 1) × (d ≡ 1)
 unfolding share_by goes_with share_of
-throughout_k t row Nothing e n d by-hours h = clash (cc)
-throughout_k t row (At j) e n d by-hours h =
-    let r : By (technique_efficiency t (row.first + j)) 1 1 ≡ By e n d = rw by-hours at h in
-    (cc, cc)
+throughout_k t row None e n d by-hours h = clash (cc)
+throughout_k t row (Some j) e n d by-hours h =
+    let k : Treatment = record { efficiency = technique_efficiency t (row.first + j); ran = record { n = 1; d = 1 } } in
+    let same = treats_parts k e n d (rw by-hours at h) in
+    (sym same.1, sym same.2)
 
 -- run and production hours that are read as so many parts, the run above the production
-module _ (run production : Float) (more most : ℕ) (ran : hours_of run ≡ Is more) (produced : hours_of production ≡ Is most) (some : 0 < most)
+module _ (run production : Float) (more most : ℕ) (ran : hours_of run ≡ Ok more) (produced : hours_of production ≡ Ok most) (some : 0 < most)
     (above : most < more) where
   alike : (row : Row) → row.rule ≡ 1 → share_by (Hours run production) row.rule ≡ share_by Throughout row.rule
   alike row by-hours = rw by-hours (outran_as_throughout run production more most ran produced some above)
@@ -53,6 +53,6 @@ module _ (run production : Float) (more most : ℕ) (ran : hours_of run ≡ Is m
       let t = technique_block (book_for from line.key) in
       let row = demand.row in
       let place = technique_index t row.first row.techniques line.technique in
-      let as-hours : by_technique t row (Hours run production) place ≡ By demand.efficiency demand.n demand.d =
+      let as-hours : by_technique t row (Hours run production) place ≡ treats demand.efficiency demand.n demand.d =
       rw (ne_eqb line.technique 0 treated, reading) at demand.treated in
       throughout_k t row place _ _ _ by-hours (sym (technique_alike t row (Hours run production) Throughout (alike row by-hours) place) ∙ as-hours)

@@ -6,10 +6,9 @@ use mathlib.Core.Bool.{true, false}
 use mathlib.Core.List.{List, [], ◌∷◌}
 use native.Mathlib.Omega.{arith}
 use lib.ListN.{length}
+use Rattle.std.specs.Prelude.{Option, Some, None, ⊤, Result, Ok, Err}
 use Rattle.search.specs.First.{first}
 use Rattle.search.specs.Test.{all, every}
-use Rattle.search.specs.declared.found.Found.{Found}
-use Rattle.search.specs.declared.found.Found.TheVariants.{At, Nothing}
 use Rattle.search.proofs.LawTest.{clash, either_way}
 use Rattle.headers.specs.Book.{row_count, book_header_ok, technique_block}
 use Rattle.headers.specs.House.{file_ok}
@@ -23,8 +22,8 @@ use Rattle.shares.specs.declared.share.Reading.TheVariants.{Throughout}
 use Rattle.fugitive.specs.Grades.{is_given, grades_bad}
 use Rattle.answers.specs.declared.answer.LineFault.TheVariants.{NoTechnique}
 use Rattle.answers.specs.declared.answer.FileFault.TheVariants.{OwnBookMalformed}
-use Rattle.answers.specs.declared.answer.Outcome.{Outcome}
-use Rattle.answers.specs.declared.answer.Outcome.TheVariants.{RefusedFile}
+use Rattle.answers.specs.declared.answer.Refusal.{Refusal}
+use Rattle.answers.specs.declared.answer.Refusal.TheVariants as refusal
 use Rattle.desk.specs.Lent.{Sources, sources, lent}
 use Rattle.desk.specs.Key.{key_from, key_same, all_scales}
 use Rattle.desk.specs.Book.{book_ok, row_start, key_at, row_ok, fields_ok, coefficient_at, techniques_ok, rises}
@@ -40,9 +39,8 @@ use Rattle.desk.specs.Inner.{at_scale}
 use Rattle.desk.specs.OneBook.{line_by_one, answer_by_one, AsWithOne}
 use Rattle.desk.specs.declared.key.Key.{Key}
 use Rattle.desk.specs.declared.line.Line.{Line}
-use Rattle.desk.specs.declared.account.LineOutcome.TheVariants.{Given, Refusal}
 use Rattle.desk.specs.declared.books.RowPlace.{RowPlace}
-use Rattle.desk.specs.declared.books.RowPlace.TheVariants.{InOwn, InPublished, InNeither}
+use Rattle.desk.specs.declared.books.RowPlace.TheVariants.{InOwn, InPublished}
 use Rattle.desk.proofs.LawRow.{no_rows_lem}
 use Rattle.desk.proofs.LawAlike.{lines_alike, table_alike}
 use Rattle.desk.proofs.LawShutOut.{book, no_entries, no_rows}
@@ -62,7 +60,7 @@ module _ (own b f s : List ℕ) (told : by_sources (sources own b f) ≡ by_publ
   same_table : table_of (line_count s) (line_outcome (lent (sources own b f) s)) ≡ table_of (line_count s) (line_by_one b f s)
   same_table = table_alike (line_outcome (lent (sources own b f) s)) (line_by_one b f s) (line_count s) each
 
-  module _ (exact shown : List ℕ) (r : Outcome) (exact' shown' : List ℕ) (p : Declared (lent (sources own b f) s) exact shown r exact' shown') where
+  module _ (exact shown : List ℕ) (r : Result ⊤ Refusal) (exact' shown' : List ℕ) (p : Declared (lent (sources own b f) s) exact shown r exact' shown') where
     as_with_one : AsWithOne b f s exact shown r exact' shown'
     unfolding cells_after shown_after
     as_with_one =
@@ -81,11 +79,11 @@ pub without_rows : (book_ok no_rows ≡ true) × (row_count no_rows ≡ 0)
 unfolding book_ok book_header_ok file_ok every u16_at u32_at all
 without_rows = (refl, refl)
 
-published_at : (from : Sources) (found : Found) → book_at from (own_first Nothing found) ≡ from.book
-published_at from (At i) = refl
-published_at from Nothing = refl
+published_at : (from : Sources) (found : Option ℕ) → book_at from (own_first None found) ≡ from.book
+published_at from (Some i) = refl
+published_at from None = refl
 
-module _ (b f s exact shown : List ℕ) (r : Outcome) (exact' shown' : List ℕ) where
+module _ (b f s exact shown : List ℕ) (r : Result ⊤ Refusal) (exact' shown' : List ℕ) where
   -- an own book without rows: every answer and every cell is as with the published book alone
   pub own_without_rows : (own : List ℕ) → book_ok own ≡ true → row_count own ≡ 0
       → Declared (lent (sources own b f) s) exact shown r exact' shown' → AsWithOne b f s exact shown r exact' shown'
@@ -93,10 +91,10 @@ module _ (b f s exact shown : List ℕ) (r : Outcome) (exact' shown' : List ℕ)
   own_without_rows own right none p =
       as_with_one own b f s (rw right) (λ k. rw (no_rows_lem own k none) (published_at (sources own b f) (row_index b k))) exact shown r exact' shown' p
 
-  same_at : (place : RowPlace) → book_at (sources b b f) place ≡ b
-  same_at (InOwn i) = refl
-  same_at (InPublished i) = refl
-  same_at InNeither = refl
+  same_at : (place : Option RowPlace) → book_at (sources b b f) place ≡ b
+  same_at (Some (InOwn i)) = refl
+  same_at (Some (InPublished i)) = refl
+  same_at None = refl
 
   -- an own book that is the published one, of any content
   pub own_is_published : Declared (lent (sources b b f) s) exact shown r exact' shown' → AsWithOne b f s exact shown r exact' shown'
@@ -105,7 +103,7 @@ module _ (b f s exact shown : List ℕ) (r : Outcome) (exact' shown' : List ℕ)
       either_way (book_ok b)
       (λ right. as_with_one b b f s (rw right) (λ k. same_at (row_place b b k)) exact shown r exact' shown' p)
       (λ wrong.
-      let refused : r ≡ RefusedFile OwnBookMalformed = rw wrong at p.demand1.answer in
+      let refused : r ≡ Err (refusal.File OwnBookMalformed) = rw wrong at p.demand1.answer in
       record {
         number = rw (refused, wrong);
         line = rw (refused, wrong);
@@ -119,23 +117,23 @@ module _ (b f s exact shown : List ℕ) (r : Outcome) (exact' shown' : List ℕ)
 
 module _ (own book : List ℕ) (k : Key) (i : ℕ) where
   -- one that asks the published book first: a row of the own book answers, whatever the published one has
-  pub own_asked_first : row_index own k ≡ At i → row_place own book k ≡ InOwn i
+  pub own_asked_first : row_index own k ≡ Some i → row_place own book k ≡ Some (InOwn i)
   unfolding row_place
   own_asked_first has = rw has
 
   -- one that skips the own book's scale 0: it answers before the published book's exact scale
-  pub own_all_scales : first (row_count own) (row_has own k) ≡ Nothing → first (row_count own) (row_has own (all_scales k)) ≡ At i
-      → row_place own book k ≡ InOwn i
+  pub own_all_scales : first (row_count own) (row_has own k) ≡ None → first (row_count own) (row_has own (all_scales k)) ≡ Some i
+      → row_place own book k ≡ Some (InOwn i)
   unfolding row_place row_index
   own_all_scales not-exact all = rw (not-exact, all)
 
   -- one that refuses where the own book has none: the published book is asked
-  pub published_asked : row_index own k ≡ Nothing → row_index book k ≡ At i → row_place own book k ≡ InPublished i
+  pub published_asked : row_index own k ≡ None → row_index book k ≡ Some i → row_place own book k ≡ Some (InPublished i)
   unfolding row_place
   published_asked none has = rw (none, has)
 
 -- one that looks at the published book before the own one
-pub own_looked_at_first : (from : Sources) → book_ok from.own ≡ false → by_sources from ≡ RefusedFile OwnBookMalformed
+pub own_looked_at_first : (from : Sources) → book_ok from.own ≡ false → by_sources from ≡ Err (refusal.File OwnBookMalformed)
 unfolding by_sources
 own_looked_at_first from wrong = rw wrong
 
@@ -184,8 +182,8 @@ treated_by technique =
 
 -- one that reads the technique in the other book: the own row's technique 1 is taken, and the published row's technique 2 is not in the list
 pub techniques_of_the_own_book : let from = sources (listing 1) (listing 2) no_entries in
-    (account_of from (treated_by 1) ≡ Given (record { generated = 100_000; removed = 100_000; reused = 0; discharged = 0; fugitive = 0 }))
-    × (account_of from (treated_by 2) ≡ Refusal NoTechnique)
+    (account_of from (treated_by 1) ≡ Ok (record { generated = 100_000; removed = 100_000; reused = 0; discharged = 0; fugitive = 0 }))
+    × (account_of from (treated_by 2) ≡ Err NoTechnique)
 unfolding account_of account_in book_for row_place row_index first row_has key_same every key_from u16_at u32_at row_of row_at coefficient_at treatment_of technique_block
     technique_index technique_has share_by goes_with share_of generated_of removed_of reused_of discharged_of dust_of is_given grades_bad
 techniques_of_the_own_book = (refl, refl)

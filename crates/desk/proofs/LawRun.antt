@@ -1,13 +1,13 @@
 -- A row's list is right exactly where it is no longer than the run from its first technique on, and how that is found by steps.
 use Prim.Native.Nat.{ℕ, zero, suc, ◌+◌, ◌*◌, ◌-◌, ◌/◌, ◌%◌, ◌≤◌, ◌<◌}
 use mathlib.Core.Path.{◌≡◌, refl, sym, ◌∙◌}
-use mathlib.Core.Bool.{true, false, ◌&&◌, ◌||◌}
+use mathlib.Core.Bool.{Bool, true, false, cond, ◌&&◌, ◌||◌}
 use mathlib.Core.List.{List}
 use mathlib.Core.Logic.{⊎_elim}
 use native.Mathlib.Numerals.{add-one}
 use native.Mathlib.Nat.{eq-or-lt_of_le}
 use native.Mathlib.Omega.{arith}
-use borrow.Author.Tests.{le-leb, lt-leb, le-ltb, lt-ltb, leb-true, leb-false, ne_eqb}
+use borrow.Author.Tests.{le-leb, lt-leb, le-ltb, lt-ltb, leb-true, leb-false, ltb-true, ltb-false, eqb-true, eqb-false, eq-eqb, ne_eqb}
 use lib.Dec.{leb, ltb, eqb}
 use lib.ListN.{get_or, length, set}
 use lib.Seq.{get_or-set_same, get_or-set_other}
@@ -211,6 +211,51 @@ module _ (t : List ℕ) where
         (either_way (leb (end - (k + 1)) next)
         (λ r. rw (r, le-leb (end - k) (next + 1) (omega (arith, leb-true (end - (k + 1)) next r))))
         (λ r. rw (r, lt-leb (end - k) (next + 1) (omega (arith, leb-false (end - (k + 1)) next r)))))
+
+  -- whether the rest of a list is right, from k on, behind a technique with the code `before`: for the first of a list that is 0
+  unfoldable pub rest_reaches : (size k end before : ℕ) → Bool
+  rest_reaches size k end before = cond (eqb k end) true (ltb before (technique_code t k) && run_reaches t size k end)
+
+  pub rest_none : (size k end before : ℕ) → k ≡ end → true ≡ rest_reaches size k end before
+  unfolding rest_reaches
+  rest_none size k end before e = rw (eq-eqb k end e)
+
+  module _ (size k end : ℕ) (below : k < end) (inside : end ≤ size) where
+    some_left : eqb k end ≡ false
+    some_left = ne_eqb k end (λ q. omega arith)
+
+    no_code : technique_code t k ≤ 0 → lawful t k ≡ false
+    unfolding lawful
+    no_code l = rw (eq-eqb (technique_code t k) 0 (omega arith))
+
+    pub rest_first : run_reaches t size k end ≡ rest_reaches size k end 0
+    unfolding rest_reaches
+    rest_first =
+        rw some_left
+        (either_way (ltb 0 (technique_code t k))
+        (λ h. rw h)
+        (λ h. rw h (sym (reaches_not size k end below inside (no_code (ltb-false 0 (technique_code t k) h))))))
+
+    rest_next : lawful t k ≡ true → rest_reaches size (k + 1) end (technique_code t k) ≡ run_reaches t size k end
+    unfolding rest_reaches
+    rest_next w =
+        either_way (eqb (k + 1) end)
+        (λ e. rw e (reaches_last size k end below inside w (eqb-true (k + 1) end e)))
+        (λ e. either_way (ltb (technique_code t k) (technique_code t (k + 1)))
+        (λ r. rw (e, r) (reaches_on size k end below inside w (ltb-true _ _ r)))
+        (λ r. rw (e, r) (reaches_no_further size k end below inside w (omega (arith, eqb-false (k + 1) end e)) (ltb-false _ _ r))))
+
+    module _ (before : ℕ) where
+      pub rest_falls : technique_code t k ≤ before → false ≡ rest_reaches size k end before
+      unfolding rest_reaches
+      rest_falls h = rw (some_left, le-ltb before (technique_code t k) h)
+
+      pub rest_by_run : before < technique_code t k → run_reaches t size k end ≡ rest_reaches size k end before
+      unfolding rest_reaches
+      rest_by_run h = rw (some_left, lt-ltb before (technique_code t k) h)
+
+      pub rest_on : before < technique_code t k → lawful t k ≡ true → rest_reaches size (k + 1) end (technique_code t k) ≡ rest_reaches size k end before
+      rest_on h w = rest_next w ∙ rest_by_run h
 
   pub reaches_by_kept : (size k end : ℕ) (runs : List ℕ) → Runs t size runs → k % runs_apart ≡ 0 → k < size
       → leb (end - k) (get_or runs (k / runs_apart) 0) ≡ run_reaches t size k end

@@ -7,6 +7,7 @@ use mathlib.Core.List.{List, [], ◌∷◌, ◌++◌}
 use mathlib.Core.Logic.{◌≢◌}
 use native.Mathlib.Omega.{arith}
 use lib.ListN.{replicate}
+use Rattle.std.specs.Prelude.{⊤, Result, Ok, Err}
 use Rattle.search.proofs.LawTest.{clash}
 use Rattle.search.specs.First.{first}
 use Rattle.search.specs.Test.{all, every}
@@ -27,6 +28,8 @@ use Rattle.desk.specs.Sheet.{sheet_ok, line_ok}
 use Rattle.desk.specs.Line.{reading_at, grades_at, line_of}
 use Rattle.desk.specs.Cells.{width}
 use Rattle.headers.specs.Unit.{unit_of, unit_of_sheet}
+use Rattle.desk.specs.declared.cells.TableRow.{TableRow}
+use Rattle.answers.specs.declared.answer.LineFault.{LineFault}
 use Rattle.desk.specs.Lent.{Sources, sources, Lent, lent}
 use Rattle.desk.specs.Books.{row_place, book_for}
 use Rattle.desk.specs.Account.{treatment_of, generated_of, excessive, account_in, account_of, line_outcome}
@@ -38,12 +41,9 @@ use Rattle.desk.specs.Table.{rows, total, table_of, by_published, by_sources, by
 use Rattle.desk.specs.Declare.{Declared}
 use Rattle.desk.specs.Works.{Results, results, BundleDeclared}
 use Rattle.desk.specs.declared.line.Line.{Line}
-use Rattle.desk.specs.declared.account.LineOutcome.TheVariants.{Refusal}
 use Rattle.answers.specs.declared.answer.LineFault.TheVariants.{ActivityTooLarge, ReuseTooLarge}
-use Rattle.answers.specs.declared.answer.Outcome.{Outcome}
-use Rattle.answers.specs.declared.answer.Outcome.TheVariants.{Accepted}
-use Rattle.answers.specs.declared.bundle.BundleOutcome.{BundleOutcome}
-use Rattle.answers.specs.declared.bundle.BundleOutcome.TheVariants.{Taken}
+use Rattle.answers.specs.declared.answer.Refusal.{Refusal}
+use Rattle.answers.specs.declared.bundle.BundleFault.{BundleFault}
 
 -- a book of one row: particulates in gas of industry 3240, 1 g/t of product (100 units a kilogram), no techniques
 abbrev pub book : List ℕ
@@ -89,9 +89,9 @@ one_and_two_exact = 100000 ∷ 0 ∷ 0 ∷ 100000 ∷ 0 ∷ 200000 ∷ 0 ∷ 0 �
 abbrev three_twice_exact : List ℕ
 three_twice_exact = 300000 ∷ 0 ∷ 0 ∷ 300000 ∷ 0 ∷ 300000 ∷ 0 ∷ 0 ∷ 300000 ∷ 0 ∷ 600000 ∷ 0 ∷ 0 ∷ 600000 ∷ 0 ∷ []
 
-worked : (answer_of one_and_two 15 ≡ Accepted) × (answer_of three_twice 15 ≡ Accepted)
-    × (cells_after Accepted (line_count one_and_two.sheet) (line_outcome one_and_two) cells ≡ one_and_two_exact)
-    × (cells_after Accepted (line_count three_twice.sheet) (line_outcome three_twice) cells ≡ three_twice_exact)
+worked : (answer_of one_and_two 15 ≡ Ok tt) × (answer_of three_twice 15 ≡ Ok tt)
+    × (cells_after (Ok tt) (line_count one_and_two.sheet) (line_outcome one_and_two) cells ≡ one_and_two_exact)
+    × (cells_after (Ok tt) (line_count three_twice.sheet) (line_outcome three_twice) cells ≡ three_twice_exact)
     × (unit_of_sheet one_and_two.sheet ≡ 100000)
 unfolding answer_of by_files by_sources by_published fugitive_ok fugitive_header_ok book_ok book_header_ok file_ok every u32_at u16_at all row_ok fields_ok coefficient_at techniques_ok rises sheet_ok
     sheet_header_ok line_ok u64_at by_lines line_outcome account_of account_in book_for row_place line_of grades_at grades_bad is_given dust_of row_of row_index first row_has key_same key_from row_at treatment_of
@@ -101,17 +101,17 @@ worked = (refl, refl, refl, refl, refl)
 -- ---- the versions
 
 -- one that refuses everything
-pub refuses_everything : (r : Outcome) (x y : List ℕ) → r ≢ Accepted → Declared one_and_two cells cells r x y → ⊥
+pub refuses_everything : (r : Result ⊤ Refusal) (x y : List ℕ) → r ≢ Ok tt → Declared one_and_two cells cells r x y → ⊥
 refuses_everything r x y refused p = refused (p.demand1.answer ∙ worked.0)
 
-module _ (r : Outcome) (x y : List ℕ) (p : Declared one_and_two cells cells r x y) where
-  accepted : r ≡ Accepted
+module _ (r : Result ⊤ Refusal) (x y : List ℕ) (p : Declared one_and_two cells cells r x y) where
+  accepted : r ≡ Ok tt
   accepted = p.demand1.answer ∙ worked.0
 
   figures : x ≡ one_and_two_exact
   figures =
       p.tables.table
-      ∙ ap (λ (o : Outcome). cells_after o (line_count one_and_two.sheet) (line_outcome one_and_two) cells) accepted
+      ∙ ap (λ (o : Result ⊤ Refusal). cells_after o (line_count one_and_two.sheet) (line_outcome one_and_two) cells) accepted
       ∙ worked.2
 
   cell : (j : ℕ) → at x j ≡ at one_and_two_exact j
@@ -132,10 +132,10 @@ module _ (r : Outcome) (x y : List ℕ) (p : Declared one_and_two cells cells r 
       omega (arith, zero 0)
 
 -- one constant table, whatever the sheet
-pub constant_table : (r q : Outcome) (x y z : List ℕ) → Declared one_and_two cells cells r x y → Declared three_twice cells cells q x z → ⊥
+pub constant_table : (r q : Result ⊤ Refusal) (x y z : List ℕ) → Declared one_and_two cells cells r x y → Declared three_twice cells cells q x z → ⊥
 constant_table r q x y z p h =
-    let yes : q ≡ Accepted = h.demand1.answer ∙ worked.1 in
-    let three = h.tables.table ∙ ap (λ (o : Outcome). cells_after o (line_count three_twice.sheet) (line_outcome three_twice) cells) yes
+    let yes : q ≡ Ok tt = h.demand1.answer ∙ worked.1 in
+    let three = h.tables.table ∙ ap (λ (o : Result ⊤ Refusal). cells_after o (line_count three_twice.sheet) (line_outcome three_twice) cells) yes
     ∙ worked.3 in
     let e : at x 0 ≡ 300000 = ap (λ (t : List ℕ). at t 0) three in
     omega (arith, cell r x y p 0)
@@ -147,9 +147,9 @@ unfolding row_of row_index first row_has key_same every key_from u16_at u32_at
 one_row_early r early meant = let e : Miss ≡ Hit (row_at book 0) = sym early ∙ meant in clash (cc)
 
 -- one that looks at the reuse before the masses: where these are too large the refusal is theirs, whatever the reuse
-pub reuse_first : (from : Sources) (line : Line) → excessive line ≡ true → account_of from line ≡ Refusal ReuseTooLarge → ⊥
+pub reuse_first : (from : Sources) (line : Line) → excessive line ≡ true → account_of from line ≡ Err ReuseTooLarge → ⊥
 unfolding account_of account_in
-reuse_first from line large h = let e : Refusal ActivityTooLarge ≡ Refusal ReuseTooLarge = rw large at h in clash (cc)
+reuse_first from line large h = let e : ◌≡◌ {A = Result TableRow LineFault} (Err ActivityTooLarge) (Err ReuseTooLarge) = rw large at h in clash (cc)
 
 -- ---- a whole works
 
@@ -165,7 +165,7 @@ two_sheets =
 abbrev lent_two : Results
 lent_two = results (replicate 10 7) (replicate 10 7) (7 ∷ 7 ∷ [])
 
-worked_two : (bundle_outcome two_sheets 10 10 2 ≡ Taken) × (code_of (answer_of (lent plain (bundled two_sheets 0)) 5) ≡ 131072)
+worked_two : (bundle_outcome two_sheets 10 10 2 ≡ Ok tt) × (code_of (answer_of (lent plain (bundled two_sheets 0)) 5) ≡ 131072)
     × (code_of (answer_of (lent plain (bundled two_sheets 1)) 5) ≡ 0)
 unfolding bundle_outcome bundle_ok bundle_header_ok entry_ok after_the_one_before roomy bundled
     answer_of by_files by_sources by_published fugitive_ok fugitive_header_ok book_ok book_header_ok file_ok every u32_at u16_at all row_ok fields_ok coefficient_at techniques_ok rises sheet_ok sheet_header_ok
@@ -173,7 +173,7 @@ unfolding bundle_outcome bundle_ok bundle_header_ok entry_ok after_the_one_befor
 worked_two = (refl, refl, refl)
 
 -- one that gives one sheet's outcome to all, whatever it leaves in the runs
-pub one_outcome : (r : BundleOutcome) (after : Results) → BundleDeclared plain two_sheets lent_two r after
+pub one_outcome : (r : Result ⊤ BundleFault) (after : Results) → BundleDeclared plain two_sheets lent_two r after
     → part_of after.outcomes 0 1 ≡ part_of after.outcomes 1 1 → ⊥
 unfolding u16_at u32_at
 one_outcome r after p same =

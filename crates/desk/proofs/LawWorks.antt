@@ -3,24 +3,20 @@ use Prim.Native.Nat.{ℕ, suc, ◌+◌, ◌*◌, ◌-◌, ◌≤◌, ◌<◌}
 use mathlib.Core.Path.{◌≡◌, refl, sym, ap, ◌∙◌}
 use mathlib.Core.List.{List, [], ◌∷◌}
 use mathlib.Core.Logic.{⊎_elim, ◌≢◌}
-use denote.Enum.Declared.{tag_of}
-use types.Run.{OneOf}
 use native.Mathlib.Omega.{arith}
 use native.Mathlib.Nat.{suc-mul, mul-le-mul_right, eq-or-lt_of_le}
 use native.Mathlib.Numerals.{add-one}
 use lib.ListN.{length, take, drop, set, length-drop, length-set}
 use lib.Seq.{drop_at, drop-drop, set_split, length-take-le, take-set-le, drop-set-lt, get_or-take, get_or-drop}
 use borrow.Rule.Slice.PartMut.{put_mid, take_put, drop_put}
+use Rattle.std.specs.Prelude.{⊤, Result, Ok, Err, is_err, true}
 use Rattle.search.proofs.LawTest.{clash}
 use Rattle.little.specs.Part.{part_of}
 use Rattle.settle.specs.Shown.{at}
 use Rattle.little.proofs.LawPart.{put_read, part_kept}
 use Rattle.answers.specs.Answer.{code_of}
-use Rattle.answers.specs.declared.answer.Outcome.{Outcome}
-use Rattle.answers.specs.declared.answer.Outcome.TheVariants.{Accepted}
-use Rattle.answers.specs.declared.bundle.BundleOutcome.{BundleOutcome}
-use Rattle.answers.specs.declared.bundle.BundleOutcome.TheVariants.{Taken, BundleMalformed, ResultTooShort}
-use Rattle.answers.specs.contracts.bundle.BundleOutcome.{the_type}
+use Rattle.answers.specs.declared.answer.Refusal.{Refusal}
+use Rattle.answers.specs.declared.bundle.BundleFault.{BundleFault}
 use Rattle.bundle.specs.Bundle.{sheet_count, cells_per_sheet, sheet_of}
 use Rattle.desk.specs.Lent.{Sources, lent}
 use Rattle.desk.specs.Demands.{Demand1, Demand2, Demand3}
@@ -30,10 +26,9 @@ use Rattle.desk.specs.Works.{Results, results, run_of, AsAlone, FirstSheets, Bun
 use Rattle.desk.specs.InnerWorks.{Around, SheetDone}
 
 -- a whole outcome whose case is not the first is a refusal
-pub not_taken : (r : BundleOutcome) → OneOf (1 ∷ 2 ∷ []) (tag_of the_type r) → r ≢ Taken
-not_taken Taken h e = ⊎_elim (λ (z : ◌≡◌ {A = ℕ} 0 1). clash z) (λ (z : ◌≡◌ {A = ℕ} 0 2). omega arith) h
-not_taken BundleMalformed h e = clash (cc)
-not_taken ResultTooShort h e = clash (cc)
+pub not_taken : (r : Result ⊤ BundleFault) → is_err r ≡ true → r ≢ Ok tt
+not_taken (Ok _) h e = clash (cc)
+not_taken (Err fault) h e = clash (cc)
 
 -- ---- one part is written
 
@@ -49,7 +44,7 @@ pub run_size : (from count : ℕ) (cells : List ℕ) → from + count ≤ length
 run_size from count cells h = length-take-le count (drop from cells) (omega (arith, length-drop from cells))
 
 -- what a sheet makes of its runs, once these are back in the results
-pub sheet_done : (from : Sources) (bundle : List ℕ) (i : ℕ) (exact shown : List ℕ) {s : List ℕ} {r : Outcome} {start size : ℕ} {x y : List ℕ}
+pub sheet_done : (from : Sources) (bundle : List ℕ) (i : ℕ) (exact shown : List ℕ) {s : List ℕ} {r : Result ⊤ Refusal} {start size : ℕ} {x y : List ℕ}
     → s ≡ sheet_of bundle i → start ≡ i * cells_per_sheet bundle → size ≡ cells_per_sheet bundle
     → i * cells_per_sheet bundle + cells_per_sheet bundle ≤ length exact → i * cells_per_sheet bundle + cells_per_sheet bundle ≤ length shown
     → Declared (lent from s) (part_of exact start size) (part_of shown start size) r x y
@@ -94,7 +89,7 @@ module _ (from : Sources) (bundle : List ℕ) (before : Results) where
   pub first_none : FirstSheets 0 from bundle before before
   first_none = record { sheets = λ i h. absurd (omega arith); exact_past = refl; shown_past = refl; outcomes_past = refl }
 
-  module _ (n : ℕ) {exact shown outcomes exact' shown' : List ℕ} {r : Outcome} {code : ℕ}
+  module _ (n : ℕ) {exact shown outcomes exact' shown' : List ℕ} {r : Result ⊤ Refusal} {code : ℕ}
       (so_far : FirstSheets n from bundle before (results exact shown outcomes)) (done : SheetDone from bundle n exact shown r exact' shown')
       (told : code ≡ code_of r) (room : n < length outcomes)
       (exact-run : n * cells_per_sheet bundle + cells_per_sheet bundle ≤ length exact)
@@ -141,8 +136,8 @@ module _ (from : Sources) (bundle : List ℕ) (before : Results) where
 
 -- ---- demands 1 to 3 read per sheet
 
-module _ (from : Sources) (bundle : List ℕ) (before : Results) (r : BundleOutcome) (after : Results) (p : BundleDeclared from bundle before r after)
-    (taken : r ≡ Taken) (i : ℕ) (h : i < sheet_count bundle) where
+module _ (from : Sources) (bundle : List ℕ) (before : Results) (r : Result ⊤ BundleFault) (after : Results) (p : BundleDeclared from bundle before r after)
+    (taken : r ≡ Ok tt) (i : ℕ) (h : i < sheet_count bundle) where
   pub alone : AsAlone from bundle before after i
   alone = (p.taken taken).sheets i h
 
@@ -150,20 +145,20 @@ module _ (from : Sources) (bundle : List ℕ) (before : Results) (r : BundleOutc
       alone.answer (run_of bundle i after.exact) (run_of bundle i after.shown)
   sheet_demand_1 = alone.declared.demand1
 
-  pub sheet_demand_2 : alone.answer ≡ Accepted → Demand2 (lent from (sheet_of bundle i)) (run_of bundle i after.exact)
+  pub sheet_demand_2 : alone.answer ≡ Ok tt → Demand2 (lent from (sheet_of bundle i)) (run_of bundle i after.exact)
   sheet_demand_2 = alone.declared.demand2
 
-  pub sheet_demand_3 : alone.answer ≡ Accepted
+  pub sheet_demand_3 : alone.answer ≡ Ok tt
       → Demand3 (lent from (sheet_of bundle i)) (run_of bundle i after.exact) (run_of bundle i after.shown)
   sheet_demand_3 = alone.declared.demand3
 
   -- what the desk answers and leaves for the sheet alone, with its runs lent, is what the bundle has for it
-  pub sheet_as_alone : (q : Outcome) (x y : List ℕ)
+  pub sheet_as_alone : (q : Result ⊤ Refusal) (x y : List ℕ)
       → Declared (lent from (sheet_of bundle i)) (run_of bundle i before.exact) (run_of bundle i before.shown) q x y
       → (part_of after.outcomes i 1 ≡ code_of q ∷ []) × (run_of bundle i after.exact ≡ x) × (run_of bundle i after.shown ≡ y)
   sheet_as_alone q x y d =
       let same = declared_once _ _ _ _ _ _ _ _ _ alone.declared d in
-      (alone.outcome ∙ ap (λ (o : Outcome). code_of o ∷ []) same.0, same.1, same.2)
+      (alone.outcome ∙ ap (λ (o : Result ⊤ Refusal). code_of o ∷ []) same.0, same.1, same.2)
 
 -- the outcome of a sheet as a cell
 pub outcome_cell : (from : Sources) (bundle : List ℕ) (before after : Results) (i : ℕ) (alone : AsAlone from bundle before after i)

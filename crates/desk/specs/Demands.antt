@@ -1,7 +1,8 @@
 -- The three demands on what the desk answers, r, and leaves in its two results.
-use Rattle.std.specs.Prelude.{ℕ, ◌+◌, ◌-◌, ◌*◌, ◌≤◌, ◌<◌, min, ◌≡◌, ◌≢◌, ◌⊎◌, List, length, drop, replicate}
+use Rattle.std.specs.Prelude.{ℕ, ◌+◌, ◌-◌, ◌*◌, ◌≤◌, ◌<◌, min, ◌≡◌, ◌≢◌, ◌⊎◌, List, length, drop, replicate, ⊤, Result, Ok, Some}
 use Rattle.amounts.specs.Line.{removed_of, reused_of, discharged_of, ◌over◌, whole, manual_value, Sound}
-use Rattle.settle.specs.Grid.{Grid, grid}
+use Rattle.settle.specs.declared.Grid.{Grid}
+use Rattle.settle.specs.Grid.{grid}
 use Rattle.settle.specs.Shown.{at, sum, Shown}
 use Rattle.desk.specs.Lent.{Sources, Lent}
 use Rattle.headers.specs.Book.{technique_block}
@@ -11,16 +12,13 @@ use Rattle.headers.specs.Sheet.{line_count}
 use Rattle.desk.specs.Line.{line_of}
 use Rattle.desk.specs.Cells.{width, discharged, table_size}
 use Rattle.desk.specs.Dust.{dust_of}
-use Rattle.desk.specs.Account.{treatment_of, generated_of, in_water}
+use Rattle.desk.specs.Account.{treats, treatment_of, generated_of, in_water}
 use Rattle.answers.specs.Answer.{answer_number, answer_line}
 use Rattle.desk.specs.Table.{answer_of}
 use Rattle.headers.specs.Unit.{unit_of_sheet}
 use Rattle.desk.specs.declared.line.Line.{Line}
-use Rattle.desk.specs.declared.dust.Dust.TheVariants.{Escapes}
 use Rattle.desk.specs.declared.row.Row.{Row}
-use Rattle.desk.specs.declared.account.Treatment.TheVariants.{By}
-use Rattle.answers.specs.declared.answer.Outcome.{Outcome}
-use Rattle.answers.specs.declared.answer.Outcome.TheVariants.{Accepted}
+use Rattle.answers.specs.declared.answer.Refusal.{Refusal}
 
 -- ---- 1. Figures, or one of the numbered refusals, each given exactly when its rule says, with the line it concerns. A refusal
 -- ---- leaves every result cell zero.
@@ -40,15 +38,15 @@ pub record OfLine (lines number line : ℕ) : Type 0 where
   pub some : 1 ≤ line
   pub within : line ≤ lines
 
-pub record Demand1 (f : Lent) (exact shown : List ℕ) (r : Outcome) (exact' shown' : List ℕ) : Type 0 where
+pub record Demand1 (f : Lent) (exact shown : List ℕ) (r : Result ⊤ Refusal) (exact' shown' : List ℕ) : Type 0 where
   -- rules 1, 13, 2 and 3, then the lines from 1 up, each by rules 4, 5, 15, 6, 14 and 7 to 11
   pub answer : r ≡ answer_of f (min (length exact) (length shown))
-  pub numbered : r ≢ Accepted → OfFile (answer_number r) (answer_line r) ⊎ OfLine (line_count f.sheet) (answer_number r) (answer_line r)
-  pub exact_zero : r ≢ Accepted → exact' ≡ replicate (length exact) 0
-  pub shown_zero : r ≢ Accepted → shown' ≡ replicate (length shown) 0
+  pub numbered : r ≢ Ok tt → OfFile (answer_number r) (answer_line r) ⊎ OfLine (line_count f.sheet) (answer_number r) (answer_line r)
+  pub exact_zero : r ≢ Ok tt → exact' ≡ replicate (length exact) 0
+  pub shown_zero : r ≢ Ok tt → shown' ≡ replicate (length shown) 0
   -- past the table nothing changes
-  pub exact_past : r ≡ Accepted → drop (table_size (line_count f.sheet)) exact' ≡ drop (table_size (line_count f.sheet)) exact
-  pub shown_past : r ≡ Accepted → drop (table_size (line_count f.sheet)) shown' ≡ drop (table_size (line_count f.sheet)) shown
+  pub exact_past : r ≡ Ok tt → drop (table_size (line_count f.sheet)) exact' ≡ drop (table_size (line_count f.sheet)) exact
+  pub shown_past : r ≡ Ok tt → drop (table_size (line_count f.sheet)) shown' ≡ drop (table_size (line_count f.sheet)) shown
 
 -- ---- 2. Generated is coefficient times activity, exact, and is raised by F, what escapes. Removed, reused and discharged follow the
 -- ---- manuals' formulas from G without F, rounded only where the rules say. Discharged is never below the manual's exact value, readings
@@ -63,9 +61,9 @@ pub record LineDemand (from : Sources) (line : Line) (G R U D F : ℕ) : Type 0 
   pub n : ℕ
   pub d : ℕ
   pub found : row_of (book_for from line.key) line.key ≡ Hit row
-  pub treated : treatment_of (technique_block (book_for from line.key)) row line.technique line.reading ≡ By efficiency n d
+  pub treated : treatment_of (technique_block (book_for from line.key)) row line.technique line.reading ≡ treats efficiency n d
   -- what escapes, by the fugitive table
-  pub escapes : dust_of from.fugitive line ≡ Escapes F
+  pub escapes : dust_of from.fugitive line ≡ Some F
   -- G without F, and G
   pub ducted : ℕ
   pub meets : ducted ≡ generated_of row line

@@ -1,42 +1,41 @@
 -- What private functions ask and answer, beside what a promise says. Nothing here is needed to read a promise.
-use Rattle.std.specs.Prelude.{ℕ, ◌+◌, ◌*◌, ◌≤◌, ◌<◌, ◌≡◌, Bool, true, false, List, [], ◌∷◌, ◌++◌, leb, ltb, length, take, drop}
+use Rattle.std.specs.Prelude.{ℕ, ◌+◌, ◌*◌, ◌≤◌, ◌<◌, ◌≡◌, Bool, true, false, cond, List, [], ◌∷◌, ◌++◌, leb, ltb, length, take, drop, Some, None, ⊤, Result, Ok, Err, Option, MatchResult}
 use Rattle.amounts.specs.Line.{whole_share}
 use Rattle.little.specs.Read.{u16_range, u16_at}
 use Rattle.search.specs.First.{first}
 use Rattle.search.specs.InnerOrder.{list_order}
 use Rattle.search.specs.Test.{every}
-use Rattle.search.specs.declared.found.Found.TheVariants.{At, Nothing}
-use Rattle.search.specs.declared.order.Order.{Order}
+use Rattle.std.specs.declared.cmp.Ordering.{Ordering}
 use Rattle.settle.specs.Shown.{at}
 use Rattle.settle.specs.Table.{Good}
 use Rattle.settle.specs.Step.{shown_table}
-use Rattle.desk.specs.Key.{key_fields}
+use Rattle.desk.specs.Key.{key_fields, key_less}
 use Rattle.headers.specs.Book.{book_header, row_count, technique_count, technique_size}
 use Rattle.desk.specs.Book.{fields_at, technique_code, technique_efficiency, techniques_ok}
-use Rattle.desk.specs.Book.{fields_ok, coefficient_at, most_coefficient, book_ok}
+use Rattle.desk.specs.Book.{row_start, key_at, fields_ok, coefficient_at, most_coefficient, book_ok}
 use Rattle.desk.specs.Row.{row_has, row_index}
+use Rattle.desk.specs.Books.{askable, row_place}
 use Rattle.headers.specs.Sheet.{line_count, line_size, most_lines}
 use Rattle.desk.specs.Sheet.{sheet_ok, line_start}
 use Rattle.desk.specs.Line.{most_kilograms}
 use Rattle.desk.specs.Entries.{fugitive_ok}
-use Rattle.desk.specs.Lent.{Sources, Lent}
+use Rattle.desk.specs.Lent.{Sources, sources, Lent, lent}
 use Rattle.fugitive.specs.Grades.{gas, particulates}
 use Rattle.fugitive.specs.Entry.{entry_size}
 use Rattle.desk.specs.Cells.{width, table_size, cells_of}
 use Rattle.desk.specs.Account.{misgraded, line_outcome}
-use Rattle.desk.specs.Table.{by_sheet, or_next, by_lines, cells_after}
+use Rattle.desk.specs.Table.{by_sources, by_files, by_lines, cells_after}
 use Rattle.desk.specs.Demands.{table_grid, Demand3}
 use Rattle.desk.specs.Declare.{BothAfter}
-use Rattle.desk.specs.declared.dust.Dust.{Dust}
-use Rattle.desk.specs.declared.dust.Dust.TheVariants.{Escapes, NoEntry}
 use Rattle.desk.specs.declared.key.Key.{Key}
 use Rattle.desk.specs.declared.line.Line.{Line}
+use Rattle.desk.specs.declared.right.RightSources.{RightSources}
+use Rattle.desk.specs.declared.right.RightFiles.{RightFiles}
 use Rattle.desk.specs.declared.row.Row.{Row}
 use Rattle.desk.specs.declared.books.RowPlace.{RowPlace}
-use Rattle.desk.specs.declared.books.RowPlace.TheVariants.{InOwn, InPublished, InNeither}
-use Rattle.desk.specs.declared.account.LineOutcome.{LineOutcome}
-use Rattle.answers.specs.declared.answer.Outcome.{Outcome}
-use Rattle.answers.specs.declared.answer.Outcome.TheVariants.{Accepted}
+use Rattle.desk.specs.declared.books.RowPlace.TheVariants.{InOwn, InPublished}
+use Rattle.answers.specs.declared.answer.LineFault.{LineFault}
+use Rattle.answers.specs.declared.answer.Refusal.{Refusal}
 use Rattle.desk.specs.declared.cells.TableRow.{TableRow}
 use Rattle.desk.specs.declared.tally.Tally.{Tally}
 
@@ -98,7 +97,7 @@ unfoldable pub codes_at : (s : List ℕ) (at : ℕ) → List ℕ
 codes_at s at = u16_at s at ∷ u16_at s (at + 2) ∷ u16_at s (at + 4) ∷ u16_at s (at + 6) ∷ u16_at s (at + 8) ∷ []
 
 -- how one key stands to another
-unfoldable pub key_order : Key → Key → Order
+unfoldable pub key_order : Key → Key → Ordering
 key_order a k = list_order (key_fields a) (key_fields k)
 
 -- ---- a row by itself
@@ -114,10 +113,14 @@ row_fits b t at =
 
 -- ---- the row search
 
+-- row j stands before a key
+unfoldable pub row_less : (b : List ℕ) (k : Key) (j : ℕ) → Bool
+row_less b k j = key_less (key_at b (row_start b j)) k
+
 -- there are so many rows, and none of the first n has this key
 pub record Passed (b : List ℕ) (k : Key) (n : ℕ) : Type 0 where
   pub within : n ≤ row_count b
-  pub none : first n (row_has b k) ≡ Nothing
+  pub none : first n (row_has b k) ≡ None
 
 -- ---- the dust of a line
 
@@ -130,12 +133,12 @@ pub record OfDust (k : Key) : Type 0 where
 abbrev pub most_dust : ℕ
 most_dust = 19_660_500_000_000_000
 
-abbrev pub SmallDust : Dust → Type 0
-SmallDust (Escapes F) = F ≤ most_dust
-SmallDust NoEntry = Unit
+abbrev pub SmallDust : Option ℕ → Type 0
+SmallDust (Some F) = F ≤ most_dust
+SmallDust None = Unit
 
 -- r is the dust that is meant, and it is small
-pub record FindsDust (r meant : Dust) : Type 0 where
+pub record FindsDust (r meant : Option ℕ) : Type 0 where
   pub eq : r ≡ meant
   pub small : SmallDust r
 
@@ -160,20 +163,23 @@ pub record ReadsRow (r meant : Row) : Type 0 where
   pub small : SmallRow r
 
 -- r says where the row of a key is; a place is that of a row of its book
-abbrev pub SmallPlace : RowPlace → Type 0
-SmallPlace (InOwn i) = i < counted
-SmallPlace (InPublished i) = i < counted
-SmallPlace InNeither = Unit
+abbrev pub SmallPlace : Option RowPlace → Type 0
+SmallPlace (Some (InOwn i)) = i < counted
+SmallPlace (Some (InPublished i)) = i < counted
+SmallPlace None = Unit
 
-pub record FindsPlace (r meant : RowPlace) : Type 0 where
+pub record FindsPlace (r meant : Option RowPlace) : Type 0 where
   pub eq : r ≡ meant
   pub small : SmallPlace r
 
--- row i of a right book is the one of this key
+-- where the row of a key is that is asked for on the inspector's screen
+abbrev pub asked_place : (own book : List ℕ) (k : Key) → Option RowPlace
+asked_place own book k = cond (askable own book k) (row_place own book k) None
+
+-- row i of a book is the one of this key
 pub record RowThere (b : List ℕ) (k : Key) (i : ℕ) : Type 0 where
-  pub found : row_index b k ≡ At i
+  pub found : row_index b k ≡ Some i
   pub small : i < counted
-  pub good : book_ok b ≡ true
 
 -- ---- a line
 
@@ -206,23 +212,16 @@ pub record Treatable (t : List ℕ) (row : Row) (line : Line) : Type 0 where
   pub activity : Moderate line
   pub reuse : line.reuse ≤ whole_share
 
--- what rules 1, 13, 4, 5, 15 and 6 leave
-pub record Gradable (t f : List ℕ) (row : Row) (line : Line) : Type 0 where
+-- what rules 1, 4, 5, 15 and 6 leave
+pub record Gradable (t : List ℕ) (row : Row) (line : Line) : Type 0 where
   pub able : Treatable t row line
-  pub fugitive : fugitive_ok f ≡ true
   pub graded : misgraded line ≡ false
 
--- what rules 13, 4, 5 and 15 leave
-pub record Admitted (f : List ℕ) (line : Line) : Type 0 where
-  pub fugitive : fugitive_ok f ≡ true
+-- what rules 4, 5 and 15 leave
+pub record Admitted (line : Line) : Type 0 where
   pub activity : Moderate line
   pub reuse : line.reuse ≤ whole_share
   pub graded : misgraded line ≡ false
-
--- and rule 1
-pub record Accountable (from : Sources) (line : Line) : Type 0 where
-  pub right : Right from
-  pub admitted : Admitted from.fugitive line
 
 -- ---- the tables
 
@@ -234,30 +233,34 @@ with_row i row cells = take (width * i) cells ++ (cells_of row ++ drop width (dr
 abbrev pub Fitting : Tally → TableRow → Type 0
 Fitting t row = (j : ℕ) → j < width → at (cells_of t.sums) j + at (cells_of row) j < 18_446_744_073_709_551_616
 
--- rules 1, 13, 2 and 3 as in `by_files`, where it is known what is wrong with the sources
-abbrev pub files_told : (told : Outcome) (s : List ℕ) (room : ℕ) → Outcome
-files_told told s room = or_next told (by_sheet s room)
-
 -- what rules 1, 13, 2 and 3 leave, for results of which the shortest has this room
 pub record Ready (f : Lent) (room : ℕ) : Type 0 where
   pub sources : Right f.sources
   pub sheet : sheet_ok f.sheet ≡ true
   pub fits : table_size (line_count f.sheet) ≤ room
 
--- what accounting for line i asks
-pub record LineReady (f : Lent) (i : ℕ) : Type 0 where
-  pub sources : Right f.sources
-  pub there : LineThere f.sheet i
+-- what the files contain that are right
+abbrev pub right_contents : RightSources → Sources
+right_contents from = sources from.own.bytes.now from.book.bytes.now from.fugitive.bytes.now
 
--- what filling asks
-pub record Fillable (f : Lent) (lines : ℕ) (cells : List ℕ) : Type 0 where
-  pub few : lines ≤ most_lines
-  pub fits : table_size lines ≤ length cells
-  pub sources : Right f.sources
-  pub there : (i : ℕ) → i < lines → LineThere f.sheet i
+abbrev pub right_lent : RightFiles → Lent
+right_lent files = lent (right_contents files.sources) files.sheet.bytes.now
+
+-- what rules 1 and 13 make of sources: they are right, or refused
+abbrev pub Told : (from : Sources) (r : Result RightSources Refusal) → Type 0
+Told from r = MatchResult r (λ right. right_contents right ≡ from) (λ refused. by_sources from ≡ Err refused)
+
+-- what is so of whatever sources that was found out of
+abbrev pub OfSources : (r : Result RightSources Refusal) (So : Sources → Type 0) → Type 0
+OfSources r So = (from : Sources) → Told from r → So from
+
+-- what rules 1, 13, 2 and 3 make of files: they are right, or refused
+abbrev pub FilesTold : (f : Lent) (room : ℕ) (r : Result RightFiles Refusal) → Type 0
+FilesTold f room r =
+    MatchResult r (λ right. right_lent right ≡ f) (λ refused. by_files f room ≡ Err refused)
 
 -- what filling says of its answer r and of what the cells hold afterwards
-pub record Filled (n : ℕ) (l : ℕ → LineOutcome) (cells : List ℕ) (r : Outcome) (after : List ℕ) : Type 0 where
+pub record Filled (n : ℕ) (l : ℕ → Result TableRow LineFault) (cells : List ℕ) (r : Result ⊤ Refusal) (after : List ℕ) : Type 0 where
   pub answer : r ≡ by_lines n l
   pub table : after ≡ cells_after r n l cells
 
@@ -273,8 +276,8 @@ abbrev pub shown_over : (unit lines : ℕ) (exact shown : List ℕ) → List ℕ
 shown_over unit lines exact shown = shown_table (table_grid unit lines) (take (table_size lines) exact) ++ drop (table_size lines) shown
 
 -- the promise where rules 1, 13, 2 and 3 leave it to the lines
-pub record LinesDeclared (f : Lent) (exact shown : List ℕ) (r : Outcome) (exact' shown' : List ℕ) : Type 0 where
+pub record LinesDeclared (f : Lent) (exact shown : List ℕ) (r : Result ⊤ Refusal) (exact' shown' : List ℕ) : Type 0 where
   pub answer : r ≡ by_lines (line_count f.sheet) (line_outcome f)
   pub tables : BothAfter f exact shown r exact' shown'
-  pub allowed : r ≡ Accepted → Demand3 f exact' shown'
-  pub past : r ≡ Accepted → drop (table_size (line_count f.sheet)) shown' ≡ drop (table_size (line_count f.sheet)) shown
+  pub allowed : r ≡ Ok tt → Demand3 f exact' shown'
+  pub past : r ≡ Ok tt → drop (table_size (line_count f.sheet)) shown' ≡ drop (table_size (line_count f.sheet)) shown

@@ -1,10 +1,9 @@
 -- "A whole works in one call": the sheets of a bundle, each as if it were alone.
-use Rattle.std.specs.Prelude.{ℕ, ◌*◌, ◌<◌, ◌≡◌, ◌≢◌, List, [], ◌∷◌, length, drop, replicate}
+use Rattle.std.specs.Prelude.{ℕ, ◌*◌, ◌<◌, ◌≡◌, ◌≢◌, List, [], ◌∷◌, length, drop, replicate, ⊤, Result, Ok}
 use Rattle.little.specs.Part.{part_of}
 use Rattle.answers.specs.Answer.{code_of}
-use Rattle.answers.specs.declared.answer.Outcome.{Outcome}
-use Rattle.answers.specs.declared.bundle.BundleOutcome.{BundleOutcome}
-use Rattle.answers.specs.declared.bundle.BundleOutcome.TheVariants.{Taken}
+use Rattle.answers.specs.declared.answer.Refusal.{Refusal}
+use Rattle.answers.specs.declared.bundle.BundleFault.{BundleFault}
 use Rattle.bundle.specs.Bundle.{sheet_count, cells_per_sheet, sheet_of}
 use Rattle.bundle.specs.Whole.{bundle_outcome}
 use Rattle.desk.specs.Lent.{Sources, lent}
@@ -25,7 +24,7 @@ run_of bundle i cells = part_of cells (i * cells_per_sheet bundle) (cells_per_sh
 
 -- sheet i as alone: of its own runs, lent to it alone, the desk makes what stands in them, and its outcome is the desk's answer
 pub record AsAlone (from : Sources) (bundle : List ℕ) (before after : Results) (i : ℕ) : Type 0 where
-  pub answer : Outcome
+  pub answer : Result ⊤ Refusal
   pub declared : Declared (lent from (sheet_of bundle i))
       (run_of bundle i before.exact) (run_of bundle i before.shown)
       answer
@@ -51,7 +50,7 @@ pub record AllZero (before after : Results) : Type 0 where
   pub outcomes : after.outcomes ≡ replicate (length before.outcomes) 0
 
 -- the whole promise for the sources, a bundle and what is lent: 16, then 3, before anything else; or sheet by sheet
-pub record BundleDeclared (from : Sources) (bundle : List ℕ) (before : Results) (r : BundleOutcome) (after : Results) : Type 0 where
+pub record BundleDeclared (from : Sources) (bundle : List ℕ) (before : Results) (r : Result ⊤ BundleFault) (after : Results) : Type 0 where
   pub answer : r ≡ bundle_outcome bundle (length before.exact) (length before.shown) (length before.outcomes)
-  pub taken : r ≡ Taken → SheetBySheet from bundle before after
-  pub refused : r ≢ Taken → AllZero before after
+  pub taken : r ≡ Ok tt → SheetBySheet from bundle before after
+  pub refused : r ≢ Ok tt → AllZero before after

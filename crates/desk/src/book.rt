@@ -2,19 +2,19 @@
 ghost use Rattle.std.specs.Prelude.{◌≡◌, true, ◌<◌, ◌≤◌, ◌*◌, ◌^◌, length};
 ghost use Rattle.little.specs.Read.{Reads};
 ghost use Rattle.headers.specs.Book.{technique_count, book_header_ok, technique_block};
-ghost use Rattle.desk.specs.Book.{row_start, key_at, fields_ok, coefficient_at, rises, rows_ok, book_ok};
+ghost use Rattle.desk.specs.Book.{row_start, key_at, fields_ok, coefficient_at, rises, row_ok, rows_ok, book_ok};
 ghost use Rattle.search.specs.InnerOrder.{list_order};
 ghost use Rattle.desk.specs.Inner.{counted, farthest, RowIn, at_scale, rest_fields, key_order, row_fits};
 ghost use Rattle.desk.specs.InnerRun.{runs_apart, Runs, Block};
 
 use super::inside::{byte_in, u16_in, u32_in};
 use super::key::{Key, codes_order, key_from};
-use super::run::{RUNS_APART, fill_runs, list_ok};
+use super::run::{RUNS_APART, Techniques, fill_runs, list_ok};
 use headers::book::{
     MOST_TECHNIQUES, ROW_SIZE, book_header_ok, row_count, row_offset, technique_block,
     technique_count,
 };
-use search::order::{Order, order_of};
+use std::cmp::Ordering;
 
 // Units per kilogram, at most.
 pub const MOST_COEFFICIENT: usize = 100_000_000;
@@ -34,29 +34,26 @@ fn key_at(b: &[u8], at: usize) -> Key
 }
 
 // How the medium and the pollutant of the row that starts at `at` stand to those of this key.
-fn rest_order(b: &[u8], at: usize, k: Key) -> Order
+fn rest_order(b: &[u8], at: usize, k: Key) -> Ordering
     requires { RowIn b.now at }
     ensures { result ≡ list_order (rest_fields (key_at b.now at)) (rest_fields k) }
 {
     let medium = byte_in(b, at, 10);
     if medium != k.medium {
-        return order_of(medium, k.medium);
+        return medium.cmp(&k.medium);
     }
-    order_of(byte_in(b, at, 11), k.pollutant)
+    byte_in(b, at, 11).cmp(&k.pollutant)
 }
 
 // How the key of the row that starts at `at` stands to this key with this scale.
-pub(crate) fn row_order(b: &[u8], at: usize, k: Key, scale: usize) -> Order
+pub(crate) fn row_order(b: &[u8], at: usize, k: Key, scale: usize) -> Ordering
     requires { RowIn b.now at }
     ensures { result ≡ key_order (key_at b.now at) (at_scale k scale) }
 {
-    match codes_order(b, at, k, scale) {
-        Order::Before => Order::Before,
-        Order::Same => rest_order(b, at, k),
-        Order::After => Order::After,
-    }
+    codes_order(b, at, k, scale).then_with(|| rest_order(b, at, k))
 }
 
+#[tactic(auto, unfolding(crate::specs::Book::fields_ok, search::specs::Test::every))]
 fn fields_ok(b: &[u8], at: usize) -> bool
     requires { RowIn b.now at }
     ensures { result ≡ fields_ok b.now at }
@@ -99,6 +96,7 @@ fn ten_to(e: usize) -> usize
     }
 }
 
+#[tactic(auto, unfolding(crate::specs::Book::coefficient_at))]
 pub(crate) fn coefficient_at(b: &[u8], at: usize) -> usize
     requires { RowIn b.now at × (fields_ok b.now at ≡ true) }
     ensures { result ≡ coefficient_at b.now at }
@@ -109,15 +107,16 @@ pub(crate) fn coefficient_at(b: &[u8], at: usize) -> usize
     digits * ten_to(3 * unit - 1 - places)
 }
 
-// A row by itself, with the table of runs.
-fn row_fits(b: &[u8], t: &[u8], runs: &[u16], size: usize, at: usize) -> bool
-    requires { RowIn b.now at × (size ≡ technique_count b.now) × Block t.now size runs.now }
-    ensures { result ≡ row_fits b.now t.now at }
+// A row by itself.
+#[tactic(auto, unfolding(crate::specs::Inner::row_fits, search::specs::Test::every))]
+fn row_fits(b: &[u8], techniques: Techniques<'_>, at: usize) -> bool
+    requires { RowIn b.now at × (techniques.size ≡ technique_count b.now) }
+    ensures { result ≡ row_fits b.now techniques.entry.block.now at }
 {
     if fields_ok(b, at) {
         let first = u16_in(b, at, 20);
-        let techniques = u16_in(b, at, 22);
-        (coefficient_at(b, at) <= MOST_COEFFICIENT) & list_ok(t, runs, size, first, techniques)
+        let count = u16_in(b, at, 22);
+        (coefficient_at(b, at) <= MOST_COEFFICIENT) & list_ok(techniques, first, count)
     } else {
         false
     }
@@ -133,32 +132,28 @@ fn row_rises(b: &[u8], i: usize, at: usize) -> bool
         return true;
     }
     let key = key_at(b, at);
-    match row_order(b, at - ROW_SIZE, key, key.scale) {
-        Order::Before => true,
-        Order::Same => false,
-        Order::After => false,
-    }
+    row_order(b, at - ROW_SIZE, key, key.scale).is_lt()
+}
+
+// Row i, which starts at `at`.
+fn row_ok(b: &[u8], techniques: Techniques<'_>, i: usize, at: usize) -> bool
+    requires { RowIn b.now at × (at ≡ row_start b.now i) × (techniques.size ≡ technique_count b.now) }
+    ensures { result ≡ row_ok b.now techniques.entry.block.now i }
+{
+    row_fits(b, techniques, at) && row_rises(b, i, at)
 }
 
 fn rows_ok(b: &[u8], runs: &[u16]) -> bool
     requires { (book_header_ok b.now ≡ true) × Runs (technique_block b.now) (technique_count b.now) runs.now }
     ensures { result ≡ rows_ok b.now }
 {
-    let t = technique_block(b);
-    let rows = row_count(b);
-    let size = technique_count(b);
-    let mut at = row_offset(b);
-    let mut i = 0;
-    while i < rows {
-        let fits = row_fits(b, t, runs, size, at);
-        if fits & row_rises(b, i, at) {
-            at += ROW_SIZE;
-            i += 1;
-        } else {
-            return false;
-        }
-    }
-    true
+    let techniques = Techniques {
+        block: technique_block(b),
+        size: technique_count(b),
+        runs,
+    };
+    let from = row_offset(b);
+    (0..row_count(b)).all(|i| row_ok(b, techniques, i, from + ROW_SIZE * i))
 }
 
 fn checked(b: &[u8], runs: &mut [u16]) -> bool
@@ -177,13 +172,12 @@ const KEPT_RUNS: usize = MOST_TECHNIQUES / RUNS_APART;
 pub fn book_ok(b: &[u8]) -> bool
     ensures { result ≡ book_ok b.now }
 {
-    if book_header_ok(b) {
-        if row_count(b) == 0 {
-            return true;
-        }
-        let mut runs = [0u16; KEPT_RUNS];
-        checked(b, &mut runs)
-    } else {
-        false
+    if !book_header_ok(b) {
+        return false;
     }
+    if row_count(b) == 0 {
+        return true;
+    }
+    let mut runs = [0u16; KEPT_RUNS];
+    checked(b, &mut runs)
 }

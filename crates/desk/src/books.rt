@@ -1,52 +1,48 @@
 // The search in two books: the works' own is asked first, for the exact scale and then for scale 0, and then the published one.
-ghost use Rattle.std.specs.Prelude.{◌≡◌, true, ◌<◌};
+ghost use Rattle.std.specs.Prelude.{◌≡◌, ◌<◌};
 ghost use Rattle.search.specs.First.{Finds};
-ghost use Rattle.desk.specs.Book.{book_ok};
 ghost use Rattle.desk.specs.Row.{row_index};
-ghost use Rattle.desk.specs.Books.{askable, bytes_of_row, fields_hold, row_bytes, row_number, row_place};
-ghost use Rattle.desk.specs.Inner.{counted, FindsPlace};
+ghost use Rattle.desk.specs.Books.{bytes_of_row, fields_hold, row_bytes, row_number, row_place};
+ghost use Rattle.desk.specs.Inner.{counted, FindsPlace, asked_place};
 
-use super::book::{book_ok, row_start};
+use super::book::row_start;
 use super::key::Key;
+use super::right::RightBook;
 use super::row::row_index;
 use headers::book::{MOST_ROWS, ROW_SIZE, row_count};
 use little::part::part;
 use little::read::{BYTE_RANGE, U16_RANGE};
-use search::found::Found;
 
 // Where the row of a key is: in which book, and which row of it, counted from 0.
 #[derive(Clone, Copy)]
 pub enum RowPlace {
     InOwn(usize),
     InPublished(usize),
-    InNeither,
 }
 
 // Most works have no row of their own, and then their book is not searched for every line.
-fn own_index(own: &[u8], k: Key) -> Found
-    requires { book_ok own.now ≡ true }
-    ensures { Finds result (row_index own.now k) counted }
+fn own_index(own: RightBook<'_>, k: Key) -> Option<usize>
+    ensures { Finds result (row_index own.entry.bytes.now k) counted }
 {
-    if row_count(own) == 0 {
-        return Found::Nothing;
+    if row_count(own.bytes) == 0 {
+        return None;
     }
     row_index(own, k)
 }
 
-pub(crate) fn row_place(own: &[u8], b: &[u8], k: Key) -> RowPlace
-    requires { (book_ok own.now ≡ true) × (book_ok b.now ≡ true) }
-    ensures { FindsPlace result (row_place own.now b.now k) }
+#[tactic(auto, unfolding(crate::specs::Books::row_place))]
+pub(crate) fn row_place(own: RightBook<'_>, book: RightBook<'_>, k: Key) -> Option<RowPlace>
+    ensures { FindsPlace result (row_place own.entry.bytes.now book.entry.bytes.now k) }
 {
-    match own_index(own, k) {
-        Found::At(i) => RowPlace::InOwn(i),
-        Found::Nothing => match row_index(b, k) {
-            Found::At(i) => RowPlace::InPublished(i),
-            Found::Nothing => RowPlace::InNeither,
-        },
+    if let Some(i) = own_index(own, k) {
+        return Some(RowPlace::InOwn(i));
     }
+    let i = row_index(book, k)?;
+    Some(RowPlace::InPublished(i))
 }
 
 // Else scale 65,536, which no row has, would find the row for all scales.
+#[tactic(auto, unfolding(crate::specs::Books::fields_hold, search::specs::Test::every))]
 fn fields_hold(k: Key) -> bool
     ensures { result ≡ fields_hold k }
 {
@@ -59,10 +55,14 @@ fn fields_hold(k: Key) -> bool
         & (k.pollutant < BYTE_RANGE)
 }
 
-fn askable(own: &[u8], book: &[u8], k: Key) -> bool
-    ensures { result ≡ askable own.now book.now k }
+// Where the row of a key of any numbers is, in books of any content and size.
+fn asked_place(own: &[u8], book: &[u8], k: Key) -> Option<RowPlace>
+    ensures { FindsPlace result (asked_place own.now book.now k) }
 {
-    fields_hold(k) & book_ok(own) & book_ok(book)
+    if !fields_hold(k) {
+        return None;
+    }
+    row_place(RightBook::of(own)?, RightBook::of(book)?, k)
 }
 
 fn bytes_of_row(b: &[u8], i: usize) -> &[u8]
@@ -74,32 +74,26 @@ fn bytes_of_row(b: &[u8], i: usize) -> &[u8]
 
 // The bytes of the row that answers for a key, as a part of the book that has it, for books of any content and size. The part is empty
 // where neither has it, one is not right, or a number of the key is one that no field can hold.
+#[tactic(auto, unfolding(crate::specs::Books::row_bytes))]
 pub fn row_bytes<'a>(own: &'a [u8], book: &'a [u8], k: Key) -> &'a [u8]
     ensures { result.now ≡ row_bytes own.now book.now k }
 {
-    if askable(own, book, k) {
-        match row_place(own, book, k) {
-            RowPlace::InOwn(i) => bytes_of_row(own, i),
-            RowPlace::InPublished(i) => bytes_of_row(book, i),
-            RowPlace::InNeither => &own[..0],
-        }
-    } else {
-        &own[..0]
+    match asked_place(own, book, k) {
+        Some(RowPlace::InOwn(i)) => bytes_of_row(own, i),
+        Some(RowPlace::InPublished(i)) => bytes_of_row(book, i),
+        None => &own[..0],
     }
 }
 
 // Which row that is: one of the own book counts from 1, one of the published book from as many further on as a book has rows at most; 0
 // where there is none.
+#[tactic(auto, unfolding(crate::specs::Books::row_number))]
 pub fn row_number(own: &[u8], book: &[u8], k: Key) -> usize
     ensures { result ≡ row_number own.now book.now k }
 {
-    if askable(own, book, k) {
-        match row_place(own, book, k) {
-            RowPlace::InOwn(i) => i + 1,
-            RowPlace::InPublished(i) => MOST_ROWS + (i + 1),
-            RowPlace::InNeither => 0,
-        }
-    } else {
-        0
+    match asked_place(own, book, k) {
+        Some(RowPlace::InOwn(i)) => i + 1,
+        Some(RowPlace::InPublished(i)) => MOST_ROWS + (i + 1),
+        None => 0,
     }
 }

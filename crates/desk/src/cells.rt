@@ -12,13 +12,27 @@ pub const COLUMNS: usize = 5;
 pub const DISCHARGED: usize = 3;
 
 // In units of 10 micrograms.
-#[derive(Clone, Copy)]
+#[derive(Clone, Copy, Debug, Default, PartialEq, Eq)]
 pub struct TableRow {
     pub generated: u64,
     pub removed: u64,
     pub reused: u64,
     pub discharged: u64,
     pub fugitive: u64,
+}
+
+impl TableRow {
+    fn cells(self) -> [u64; COLUMNS]
+        ensures { result ≡ cells_of self }
+    {
+        [
+            self.generated,
+            self.removed,
+            self.reused,
+            self.discharged,
+            self.fugitive,
+        ]
+    }
 }
 
 // What escapes is not among the amounts that are treated: it raises G, and stands by itself.
@@ -40,11 +54,7 @@ fn write_row(cells: &mut [u64], row: TableRow)
     requires { length cells.old ≡ width }
     ensures { cells.new ≡ cells_of row }
 {
-    cells[0] = row.generated;
-    cells[1] = row.removed;
-    cells[2] = row.reused;
-    cells[3] = row.discharged;
-    cells[4] = row.fugitive;
+    cells.copy_from_slice(&row.cells());
 }
 
 // Row i of a table, written in its own part of the table's cells.

@@ -7,7 +7,6 @@ ghost use Rattle.desk.specs.Inner.{EntryIn};
 use super::key::{codes_order, key_from};
 use fugitive::grades::{GAS, PARTICULATES};
 use fugitive::header::{ENTRY_SIZE, entry_count, entry_offset, fugitive_header_ok};
-use search::order::Order;
 
 // Whether entry i, which starts at `at`, has a key above that of the entry before it, which is compared where it stands. The first has none
 // before it.
@@ -19,39 +18,22 @@ fn entry_rises(f: &[u8], i: usize, at: usize) -> bool
         return true;
     }
     let key = key_from(f, at, GAS, PARTICULATES);
-    match codes_order(f, at - ENTRY_SIZE, key, key.scale) {
-        Order::Before => true,
-        Order::Same => false,
-        Order::After => false,
-    }
+    codes_order(f, at - ENTRY_SIZE, key, key.scale).is_lt()
 }
 
 fn entries_ok(f: &[u8]) -> bool
     requires { fugitive_header_ok f.now ≡ true }
     ensures { result ≡ entries_ok f.now }
 {
-    let entries = entry_count(f);
-    let mut at = entry_offset(f);
-    let mut i = 0;
-    while i < entries {
-        if entry_rises(f, i, at) {
-            at += ENTRY_SIZE;
-            i += 1;
-        } else {
-            return false;
-        }
-    }
-    true
+    let from = entry_offset(f);
+    (0..entry_count(f)).all(|i| entry_rises(f, i, from + ENTRY_SIZE * i))
 }
 
 // Whether a fugitive table of any content and size is right. Entries are looked at only where the header is, so that no wrong count is
 // walked.
+#[tactic(auto, unfolding(crate::specs::Entries::fugitive_ok))]
 pub fn fugitive_ok(f: &[u8]) -> bool
     ensures { result ≡ fugitive_ok f.now }
 {
-    if fugitive_header_ok(f) {
-        entries_ok(f)
-    } else {
-        false
-    }
+    fugitive_header_ok(f) && entries_ok(f)
 }

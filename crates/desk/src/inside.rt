@@ -12,6 +12,7 @@ pub(crate) fn byte_in(s: &[u8], at: usize, field: usize) -> usize
     s[at + field] as usize
 }
 
+#[tactic(auto, unfolding(little::specs::Read::u16_at))]
 pub(crate) fn u16_in(s: &[u8], at: usize, field: usize) -> usize
     requires { at + field + 2 ≤ length s.now }
     ensures { Reads result (u16_at s.now (at + field)) u16_range }
@@ -19,6 +20,7 @@ pub(crate) fn u16_in(s: &[u8], at: usize, field: usize) -> usize
     byte_in(s, at, field) + BYTE_RANGE * byte_in(s, at + field, 1)
 }
 
+#[tactic(auto, unfolding(little::specs::Read::u32_at))]
 pub(crate) fn u32_in(s: &[u8], at: usize, field: usize) -> usize
     requires { at + field + 4 ≤ length s.now }
     ensures { Reads result (u32_at s.now (at + field)) u32_range }
@@ -26,6 +28,7 @@ pub(crate) fn u32_in(s: &[u8], at: usize, field: usize) -> usize
     u16_in(s, at, field) + U16_RANGE * u16_in(s, at + field, 2)
 }
 
+#[tactic(auto, unfolding(little::specs::Read::u64_at))]
 pub(crate) fn u64_in(s: &[u8], at: usize, field: usize) -> u64
     requires { at + field + 8 ≤ length s.now }
     ensures { result ≡ u64_at s.now (at + field) }

@@ -31,13 +31,6 @@ pub struct Line {
     pub grades: Grades,
 }
 
-// A line whose bytes are there; or not.
-#[derive(Clone, Copy)]
-pub enum SheetLine {
-    There(Line),
-    NotThere,
-}
-
 fn float_at(s: &[u8], at: usize, field: usize) -> f64
     requires { at + field + 8 ≤ length s.now }
     ensures { result ≡ float_at s.now (at + field) }
@@ -45,31 +38,28 @@ fn float_at(s: &[u8], at: usize, field: usize) -> f64
     from_bits(u64_in(s, at, field))
 }
 
+#[tactic(auto, unfolding(crate::specs::Line::reading_at))]
 pub(crate) fn reading_at(s: &[u8], at: usize) -> Reading
     requires { LineIn s.now at }
     ensures { result ≡ reading_at s.now at }
 {
-    let kind = byte_in(s, at, 14);
-    if kind == 1 {
-        return Reading::Hours {
+    match byte_in(s, at, 14) {
+        1 => Reading::Hours {
             run: float_at(s, at, 32),
             production: float_at(s, at, 40),
-        };
-    }
-    if kind == 2 {
-        return Reading::Energy(EnergyReading {
+        },
+        2 => Reading::Energy(EnergyReading {
             kwh: float_at(s, at, 32),
             kw: float_at(s, at, 40),
             hours: float_at(s, at, 48),
-        });
+        }),
+        3 => Reading::Throughout,
+        _ => Reading::None,
     }
-    if kind == 3 {
-        return Reading::Throughout;
-    }
-    Reading::None
 }
 
 // Of the three places where dust escapes.
+#[tactic(auto, unfolding(crate::specs::Line::grades_at))]
 fn grades_at(s: &[u8], at: usize) -> Grades
     requires { LineIn s.now at }
     ensures { result ≡ grades_at s.now at }
@@ -83,6 +73,7 @@ fn grades_at(s: &[u8], at: usize) -> Grades
 
 // Line i, with its reading. That is read by a function of its own: the two are each so small that the compiler puts them into every loop
 // that asks for lines.
+#[tactic(auto, unfolding(crate::specs::Line::line_of))]
 pub(crate) fn line_of(s: &[u8], i: usize, reading: Reading) -> Line
     requires { LineThere s.now i × (reading ≡ reading_at s.now (line_start s.now i)) }
     ensures { result ≡ line_of s.now i }
@@ -100,15 +91,16 @@ pub(crate) fn line_of(s: &[u8], i: usize, reading: Reading) -> Line
 }
 
 // Line i of a sheet of any content, counted from 0: there is none where the header states no more lines, or the sheet ends before it does.
-pub fn sheet_line(s: &[u8], i: usize) -> SheetLine
+#[tactic(auto, unfolding(crate::specs::Found::sheet_line))]
+pub fn sheet_line(s: &[u8], i: usize) -> Option<Line>
     ensures { result ≡ sheet_line s.now i }
 {
     if line_count(s) <= i {
-        return SheetLine::NotThere;
+        return None;
     }
     let at = line_start(s, i);
     if s.len() < at + LINE_SIZE {
-        return SheetLine::NotThere;
+        return None;
     }
-    SheetLine::There(line_of(s, i, reading_at(s, at)))
+    Some(line_of(s, i, reading_at(s, at)))
 }

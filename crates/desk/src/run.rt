@@ -12,6 +12,15 @@ use super::technique::{code_in, efficiency_in};
 // A run is kept for each so many techniques: the more, the less stack is wanted, and the more steps a row takes.
 pub(crate) const RUNS_APART: usize = 4;
 
+// A technique block, and the runs that are kept for its techniques.
+#[derive(Clone, Copy)]
+pub(crate) struct Techniques<'a> {
+    pub block: &'a [u8],
+    pub size: usize,
+    pub runs: &'a [u16],
+    ghost kept: { Block block.now size runs.now },
+}
+
 // A technique by itself.
 fn is_lawful(code: usize, efficiency: usize) -> bool
     ensures { result ≡ lawful_by code efficiency }
@@ -36,11 +45,9 @@ pub(crate) fn fill_runs(t: &[u8], size: usize, runs: &mut [u16])
     requires { (size ≤ most_techniques) × (length t.now ≡ technique_size * size) × (size ≤ runs_apart * length runs.old) }
     ensures { Runs t.now size runs.new }
 {
-    let mut k = size;
     let mut next = 0;
     let mut run = 0;
-    while 0 < k {
-        k -= 1;
+    for k in (0..size).rev() {
         let code = code_in(t, k);
         run = run_before(code, efficiency_in(t, k), next, run);
         if k % RUNS_APART == 0 {
@@ -52,32 +59,32 @@ pub(crate) fn fill_runs(t: &[u8], size: usize, runs: &mut [u16])
 
 // A list that is empty is right wherever it begins. Any other is looked at technique by technique, up to its end or to the first one whose
 // run is kept.
-pub(crate) fn list_ok(t: &[u8], runs: &[u16], size: usize, first: usize, count: usize) -> bool
-    requires { Block t.now size runs.now × (first < counted) × (count < counted) }
-    ensures { result ≡ techniques_ok t.now size first count }
+pub(crate) fn list_ok(techniques: Techniques<'_>, first: usize, count: usize) -> bool
+    requires { (first < counted) × (count < counted) }
+    ensures { result ≡ techniques_ok techniques.entry.block.now techniques.entry.size first count }
 {
     if count == 0 {
         return true;
     }
     let end = first + count;
-    if size < end {
+    if techniques.size < end {
         return false;
     }
-    let mut k = first;
-    let mut code = code_in(t, k);
-    while k % RUNS_APART != 0 {
-        if !is_lawful(code, efficiency_in(t, k)) {
+    let block = techniques.block;
+    let runs = techniques.runs;
+    let mut before = 0;
+    for k in first..end {
+        let code = code_in(block, k);
+        if code <= before {
             return false;
         }
-        k += 1;
-        if k == end {
-            return true;
+        if k % RUNS_APART == 0 {
+            return end - k <= runs[k / RUNS_APART] as usize;
         }
-        let next = code_in(t, k);
-        if next <= code {
+        if !is_lawful(code, efficiency_in(block, k)) {
             return false;
         }
-        code = next;
+        before = code;
     }
-    end - k <= runs[k / RUNS_APART] as usize
+    true
 }

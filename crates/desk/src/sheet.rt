@@ -15,6 +15,7 @@ pub(crate) fn line_start(s: &[u8], i: usize) -> usize
     line_offset(s) + LINE_SIZE * i
 }
 
+#[tactic(auto, unfolding(crate::specs::Sheet::line_ok, search::specs::Test::every))]
 fn line_ok(s: &[u8], i: usize) -> bool
     requires { (i < counted) × LineIn s.now (line_start s.now i) }
     ensures { result ≡ line_ok s.now i }
@@ -30,23 +31,13 @@ fn lines_ok(s: &[u8]) -> bool
     requires { sheet_header_ok s.now ≡ true }
     ensures { result ≡ lines_ok s.now }
 {
-    let lines = line_count(s);
-    let mut ok = true;
-    let mut i = 0;
-    while i < lines {
-        ok = ok & line_ok(s, i);
-        i += 1;
-    }
-    ok
+    (0..line_count(s)).all(|i| line_ok(s, i))
 }
 
 // Whether a sheet of any content and size is right. Lines are looked at only where the header is, so that no wrong count is walked.
+#[tactic(auto, unfolding(crate::specs::Sheet::sheet_ok))]
 pub fn sheet_ok(s: &[u8]) -> bool
     ensures { result ≡ sheet_ok s.now }
 {
-    if sheet_header_ok(s) {
-        lines_ok(s)
-    } else {
-        false
-    }
+    sheet_header_ok(s) && lines_ok(s)
 }

@@ -5,7 +5,7 @@ ghost use Rattle.desk.specs.Tally.{add, start};
 
 use super::cells::TableRow;
 
-#[derive(Clone, Copy)]
+#[derive(Clone, Copy, Default)]
 pub struct Tally {
     pub sums: TableRow,
 }
@@ -14,15 +14,7 @@ impl Tally {
     pub(crate) fn start() -> Self
         ensures { result ≡ start }
     {
-        Tally {
-            sums: TableRow {
-                generated: 0,
-                removed: 0,
-                reused: 0,
-                discharged: 0,
-                fugitive: 0,
-            },
-        }
+        Tally::default()
     }
 
     pub(crate) fn add(mut self, row: TableRow) -> Self
@@ -30,14 +22,13 @@ impl Tally {
         ensures { result ≡ add self row }
     {
         let sums = self.sums;
-        let more = TableRow {
+        self.sums = TableRow {
             generated: sums.generated + row.generated,
             removed: sums.removed + row.removed,
             reused: sums.reused + row.reused,
             discharged: sums.discharged + row.discharged,
             fugitive: sums.fugitive + row.fugitive,
         };
-        self.sums = more;
         self
     }
 }

@@ -11,38 +11,27 @@ ghost use Rattle.desk.specs.Technique.{technique_index};
 use super::inside::u16_in;
 use headers::book::TECHNIQUE_SIZE;
 use little::read::u16_at;
-use search::found::Found;
+use search::halving::passing;
 
-// How many of the techniques of a list have a lower code: codes rise, so that half of those in question fall away at each turn.
+// How many of the techniques of a list have a lower code: codes rise.
 fn codes_below(t: &[u8], from: usize, count: usize, code: usize) -> usize
     requires { (from < counted) × (count < counted) × Listed t.now from count }
     ensures { Cut count (code_below t.now from code) result result }
 {
-    let mut low = 0;
-    let mut high = count;
-    while low < high {
-        let middle = low + (high - low) / 2;
-        if code_in(t, from + middle) < code {
-            low = middle + 1;
-        } else {
-            high = middle;
-        }
-    }
-    low
+    passing(count, |j| code_in(t, from + j) < code)
 }
 
 // The place, in a row's list of `count` techniques that begins at `from`, of the one with this code.
-pub(crate) fn technique_index(t: &[u8], from: usize, count: usize, code: usize) -> Found
+#[tactic(auto, unfolding(crate::specs::Technique::technique_index, crate::specs::Technique::technique_has))]
+pub(crate) fn technique_index(t: &[u8], from: usize, count: usize, code: usize) -> Option<usize>
     requires { (from < counted) × (count < counted) × Listed t.now from count }
     ensures { Finds result (technique_index t.now from count code) counted }
 {
     let j = codes_below(t, from, count, code);
-    if j < count {
-        if code_in(t, from + j) == code {
-            return Found::At(j);
-        }
+    if j < count && code_in(t, from + j) == code {
+        return Some(j);
     }
-    Found::Nothing
+    None
 }
 
 pub(crate) fn efficiency_at(t: &[u8], k: usize) -> usize

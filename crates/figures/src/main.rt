@@ -2,8 +2,6 @@
 // tables that are settled step by step.
 #![tactic(auto)]
 
-mod file;
-mod print;
 mod runs;
 mod settled;
 mod worked;

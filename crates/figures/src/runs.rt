@@ -1,173 +1,115 @@
 // The desk over the folders of data/: each has a book, a fugitive table and a sheet, which may be typed, or a bundle, and the listing that
 // `make-files` made them from, or what was changed. A works with factors of its own has its own book, too.
-ghost use Rattle.std.specs.Prelude.{◌≡◌, length};
-ghost use Rattle.report.specs.Bundle.{most_bundle_text};
+ghost use Rattle.little.specs.Read.{AreBytes};
 
-use super::file::read_file;
-use super::print::say;
+use desk::lent::Sources;
+use folder::files::{load, room};
+use folder::given::{Given, whole_report};
 use headers::book::NO_ROWS;
 use headers::house::MOST_BYTES;
-use little::part::part;
 use numerals::bytes::lay;
-use report::{MOST_BUNDLE_TEXT, Written, report, report_bundle, report_text};
+use report::MOST_BUNDLE_TEXT;
 use std::rt::Files;
 use std::str;
 
-// What the desk is given beside the books and the fugitive table.
-#[derive(Drop)]
-enum Given {
-    Sheet,
-    Bundle,
-    Typed,
-}
-
-fn report_given(
-    given: Given,
-    own: &[u8],
-    book: &[u8],
-    fugitive: &[u8],
-    file: &[u8],
-    text: &mut [u8],
-) -> Written {
+fn name_of(given: Given) -> &'static str {
     match given {
-        Given::Sheet => report(own, book, fugitive, file, text),
-        Given::Bundle => report_bundle(own, book, fugitive, file, text),
-        Given::Typed => report_text(own, book, fugitive, file, text),
+        Given::Sheet => "sheet.bin",
+        Given::Typed => "sheet.csv",
+        Given::Bundle => "bundle.bin",
     }
 }
 
-// Room for a bundle's report. Only its length is told, so that nothing else that is proved has to look at so many zeros.
-fn bundle_room() -> [u8; MOST_BUNDLE_TEXT]
-    ensures { most_bundle_text ≡ length result }
-{
-    [0; MOST_BUNDLE_TEXT]
-}
+// No path of a folder's file is longer.
+const MOST_PATH: usize = 61;
 
-fn answer(rt: &impl Print, given: Given, own: &[u8], book: &[u8], fugitive: &[u8], file: &[u8]) {
-    let mut text = bundle_room();
-    let written = report_given(given, own, book, fugitive, file, &mut text);
-    if let Written::Bytes(bytes) = written {
-        say(rt, part(&text, 0, bytes));
+// The path of a folder's file; none where it has no room.
+fn path_of<'a>(folder: &str, file: &str, room: &'a mut [u8; MOST_PATH]) -> Option<&'a str> {
+    let slash = lay(room, 0, folder.as_bytes());
+    if MOST_PATH <= slash {
+        return None;
     }
-}
-
-// No folder and no file has a longer name.
-const LONGEST_NAME: usize = 30;
-
-// Writes the path of a folder's file, and answers how long it is; none where a name is longer.
-fn path_of(folder: &[u8], file: &[u8], path: &mut [u8]) -> usize {
-    let folder_bytes = folder.len();
-    let file_bytes = file.len();
-    if (LONGEST_NAME < folder_bytes) | (LONGEST_NAME < file_bytes) {
-        return 0;
-    }
-    lay(path, 0, folder);
-    lay(path, folder_bytes, b"/");
-    lay(path, folder_bytes + 1, file);
-    folder_bytes + 1 + file_bytes
+    lay(room, slash, b"/");
+    let bytes = lay(room, slash + 1, file.as_bytes());
+    let end = (slash + 1).saturating_add(bytes);
+    str::from_utf8(room.get(..end)?).ok()
 }
 
 // A file that is not there is read as no bytes.
-fn load(rt: &impl Files, folder: &[u8], file: &[u8], room: &mut [u8]) -> usize {
-    let mut path = [0u8; 2 * LONGEST_NAME + 1];
-    let path_bytes = path_of(folder, file, &mut path);
-    match str::from_utf8(part(&path, 0, path_bytes)) {
-        Ok(path) => read_file(rt, path, room),
-        Err(_) => 0,
+fn load_from<'a>(rt: &impl Files, folder: &str, file: &str, room: &'a mut [u8]) -> &'a [u8]
+    ensures { AreBytes result.now }
+{
+    let mut path = [0u8; MOST_PATH];
+    match path_of(folder, file, &mut path) {
+        Some(path) => load(rt, path, room),
+        None => &room[..0],
     }
 }
 
 // A works without a book of its own lends one without rows.
-fn load_own(rt: &impl Files, folder: &[u8], room: &mut [u8]) -> usize {
-    let bytes = load(rt, folder, b"own.bin", room);
-    if bytes == 0 {
-        lay(room, 0, &NO_ROWS)
-    } else {
-        bytes
-    }
-}
-
-fn name(rt: &impl Print, folder: &[u8], file: &[u8]) {
-    say(rt, b"run ");
-    say(rt, folder);
-    say(rt, b"/");
-    say(rt, file);
-    say(rt, b"\n");
+fn load_own<'a>(rt: &impl Files, folder: &str, room: &'a mut [u8]) -> &'a [u8] {
+    let own = load_from(rt, folder, "own.bin", room);
+    if own.is_empty() { &NO_ROWS } else { own }
 }
 
 // Prints the path of what is given, and what the desk answers.
-fn run_given(rt: &(impl Files + Print), given: Given, folder: &[u8], file: &[u8]) {
+fn run(rt: &(impl Files + Print), given: Given, folder: &str) {
     let mut own = [0u8; MOST_BYTES];
     let mut book = [0u8; MOST_BYTES];
     let mut fugitive = [0u8; MOST_BYTES];
     let mut content = [0u8; MOST_BYTES];
-    let own_bytes = load_own(rt, folder, &mut own);
-    let book_bytes = load(rt, folder, b"book.bin", &mut book);
-    let fugitive_bytes = load(rt, folder, b"fugitive.bin", &mut fugitive);
-    let content_bytes = load(rt, folder, file, &mut content);
-    name(rt, folder, file);
-    answer(
-        rt,
-        given,
-        part(&own, 0, own_bytes),
-        part(&book, 0, book_bytes),
-        part(&fugitive, 0, fugitive_bytes),
-        part(&content, 0, content_bytes),
-    );
-}
-
-fn run(rt: &(impl Files + Print), folder: &[u8]) {
-    run_given(rt, Given::Sheet, folder, b"sheet.bin");
-}
-
-fn run_bundle(rt: &(impl Files + Print), folder: &[u8]) {
-    run_given(rt, Given::Bundle, folder, b"bundle.bin");
-}
-
-fn run_typed(rt: &(impl Files + Print), folder: &[u8]) {
-    run_given(rt, Given::Typed, folder, b"sheet.csv");
+    let mut text = room::<MOST_BUNDLE_TEXT>();
+    let file = name_of(given);
+    let _ = println!(rt; "run {folder}/{file}");
+    let sources = Sources {
+        own: load_own(rt, folder, &mut own),
+        book: load_from(rt, folder, "book.bin", &mut book),
+        fugitive: load_from(rt, folder, "fugitive.bin", &mut fugitive),
+    };
+    let content = load_from(rt, folder, file, &mut content);
+    let _ = rt.write_all(whole_report(given, sources, content, &mut text));
 }
 
 pub(crate) fn runs(rt: &(impl Files + Print)) {
-    run(rt, b"document-000");
-    run(rt, b"document-002");
-    run(rt, b"energy");
-    run(rt, b"two-halves");
+    run(rt, Given::Sheet, "document-000");
+    run(rt, Given::Sheet, "document-002");
+    run(rt, Given::Sheet, "energy");
+    run(rt, Given::Sheet, "two-halves");
 }
 
 // At the limits, and over each of them.
 pub(crate) fn limit_runs(rt: &(impl Files + Print)) {
-    run(rt, b"limits");
-    run(rt, b"over-hours");
-    run(rt, b"over-kilograms");
-    run(rt, b"over-production");
-    run(rt, b"over-rating");
+    run(rt, Given::Sheet, "limits");
+    run(rt, Given::Sheet, "over-hours");
+    run(rt, Given::Sheet, "over-kilograms");
+    run(rt, Given::Sheet, "over-production");
+    run(rt, Given::Sheet, "over-rating");
 }
 
 pub(crate) fn fugitive_runs(rt: &(impl Files + Print)) {
-    run(rt, b"fugitive");
-    run(rt, b"fugitive-no-entry");
-    run(rt, b"fugitive-in-water");
-    run(rt, b"fugitive-bad-table");
+    run(rt, Given::Sheet, "fugitive");
+    run(rt, Given::Sheet, "fugitive-no-entry");
+    run(rt, Given::Sheet, "fugitive-in-water");
+    run(rt, Given::Sheet, "fugitive-bad-table");
 }
 
 pub(crate) fn own_runs(rt: &(impl Files + Print)) {
-    run(rt, b"own-kiln");
-    run(rt, b"own-neither");
-    run(rt, b"own-bad-book");
+    run(rt, Given::Sheet, "own-kiln");
+    run(rt, Given::Sheet, "own-neither");
+    run(rt, Given::Sheet, "own-bad-book");
 }
 
 pub(crate) fn bundle_runs(rt: &(impl Files + Print)) {
-    run_bundle(rt, b"bundle-works");
-    run_bundle(rt, b"bundle-none");
-    run_bundle(rt, b"bundle-short-run");
-    run_bundle(rt, b"bundle-bad-book");
-    run_bundle(rt, b"bundle-over-room");
-    run_bundle(rt, b"bundle-overlapping");
+    run(rt, Given::Bundle, "bundle-works");
+    run(rt, Given::Bundle, "bundle-none");
+    run(rt, Given::Bundle, "bundle-short-run");
+    run(rt, Given::Bundle, "bundle-bad-book");
+    run(rt, Given::Bundle, "bundle-over-room");
+    run(rt, Given::Bundle, "bundle-overlapping");
 }
 
 pub(crate) fn typed_runs(rt: &(impl Files + Print)) {
-    run_typed(rt, b"typed-foundry");
-    run_typed(rt, b"typed-hours-over");
-    run_typed(rt, b"typed-line-feeds");
+    run(rt, Given::Typed, "typed-foundry");
+    run(rt, Given::Typed, "typed-hours-over");
+    run(rt, Given::Typed, "typed-line-feeds");
 }

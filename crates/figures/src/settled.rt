@@ -1,6 +1,5 @@
 // Tables of two lines, settled step by step: the picture of docs/SETTLING.md with ten as 10^5, and tables that are refused.
-use super::print::{number, say};
-use answers::step::{CountOutcome, StepOutcome};
+use answers::step::{Stepped, TableOff, step_code};
 use steps::count::settling_steps;
 use steps::step::settling_step;
 
@@ -22,60 +21,44 @@ const SUM_WRAPPED: [u64; CELLS] = [
 ];
 
 fn table(rt: &impl Print, cells: &[u64]) {
-    let mut i = 0;
-    while i < cells.len() {
-        number(rt, cells[i]);
-        i += 1;
+    for cell in cells {
+        let _ = print!(rt; " {cell}");
     }
-    say(rt, b"\n");
+    let _ = println!(rt; "");
 }
 
-fn count(rt: &impl Print, unit: u64, cells: &[u64]) {
-    match settling_steps(unit, cells) {
-        CountOutcome::Changes(steps) => number(rt, steps as u64),
-        CountOutcome::TableOff => say(rt, b" refused"),
-    }
-    say(rt, b"\n");
+fn count(rt: &impl Print, name: &str, unit: u64, cells: &[u64]) {
+    let _ = match settling_steps(unit, cells) {
+        Ok(steps) => println!(rt; "settled {name} {steps}"),
+        Err(TableOff) => println!(rt; "settled {name} refused"),
+    };
 }
 
 // The answer to one step, as one number, and the table after it.
 fn step(rt: &impl Print, unit: u64, cells: &[u64], next: &mut [u64]) -> bool {
     let outcome = settling_step(unit, cells, next);
-    say(rt, b"step");
-    number(rt, outcome.code());
+    let _ = print!(rt; "step {}", step_code(outcome));
     table(rt, next);
-    match outcome {
-        StepOutcome::Changed => true,
-        StepOutcome::Whole => false,
-        StepOutcome::TableOff => false,
-        StepOutcome::ResultTooShort => false,
-    }
+    matches!(outcome, Ok(Stepped::Changed))
 }
 
 // The count, and every step up to the one that changes nothing.
-fn settled(rt: &impl Print, name: &[u8], unit: u64, cells: [u64; CELLS]) {
-    say(rt, b"settled ");
-    say(rt, name);
-    count(rt, unit, &cells);
+fn settled(rt: &impl Print, name: &str, unit: u64, cells: [u64; CELLS]) {
+    count(rt, name, unit, &cells);
     let mut now = cells;
     let mut next = [7u64; CELLS];
-    let mut left = CELLS;
-    while 0 < left {
-        if step(rt, unit, &now, &mut next) {
-            now = next;
-            left -= 1;
-        } else {
-            left = 0;
+    for _ in 0..CELLS {
+        if !step(rt, unit, &now, &mut next) {
+            return;
         }
+        now = next;
     }
 }
 
 // One cell too few is lent.
-fn short(rt: &impl Print, name: &[u8], unit: u64, cells: [u64; CELLS]) {
+fn short(rt: &impl Print, name: &str, unit: u64, cells: [u64; CELLS]) {
     let mut next = [7u64; CELLS - 1];
-    say(rt, b"short ");
-    say(rt, name);
-    say(rt, b"\n");
+    let _ = println!(rt; "short {name}");
     step(rt, unit, &cells, &mut next);
 }
 
@@ -87,11 +70,11 @@ fn sum_off() -> [u64; CELLS] {
 }
 
 pub(crate) fn settlings(rt: &impl Print) {
-    settled(rt, b"picture", 1, PICTURE);
-    settled(rt, b"picture in kilograms", 2, PICTURE);
-    settled(rt, b"a sum off by one", 1, sum_off());
-    settled(rt, b"sums modulo 2^64", 1, SUM_WRAPPED);
-    settled(rt, b"no such unit", 4, PICTURE);
-    short(rt, b"picture", 1, PICTURE);
-    short(rt, b"a sum off by one", 1, sum_off());
+    settled(rt, "picture", 1, PICTURE);
+    settled(rt, "picture in kilograms", 2, PICTURE);
+    settled(rt, "a sum off by one", 1, sum_off());
+    settled(rt, "sums modulo 2^64", 1, SUM_WRAPPED);
+    settled(rt, "no such unit", 4, PICTURE);
+    short(rt, "picture", 1, PICTURE);
+    short(rt, "a sum off by one", 1, sum_off());
 }

@@ -14,6 +14,7 @@ const TAPPING: usize = 16;
 const SPILL: usize = 22;
 
 // The factor of a place, whose three begin at `from`, by its grade; 0 where there is no such grade.
+#[tactic(auto, unfolding(crate::specs::Entry::chosen))]
 fn chosen(entry: &[u8], from: usize, grade: usize) -> usize
     requires { from < entry_size }
     ensures { Reads result (chosen entry.now from grade) u16_range }
@@ -27,6 +28,7 @@ fn chosen(entry: &[u8], from: usize, grade: usize) -> usize
 }
 
 // The sum of the factors that the grades choose, in thousandths of kg/t; of bytes that are no entry, those past the end count as 0.
+#[tactic(auto, unfolding(crate::specs::Entry::factors_of))]
 pub fn factors_of(entry: &[u8], grades: Grades) -> usize
     ensures { Reads result (factors_of entry.now grades) factors_range }
 {

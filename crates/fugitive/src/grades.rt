@@ -18,6 +18,7 @@ pub struct Grades {
 
 impl Grades {
     // Whether a grade is given at any place.
+    #[tactic(auto, unfolding(crate::specs::Grades::is_given))]
     pub fn is_given(self) -> bool
         ensures { result ≡ is_given self }
     {
@@ -25,6 +26,7 @@ impl Grades {
     }
 
     // Rule 15: a grade that there is not, or any grade on a sheet of another medium or pollutant.
+    #[tactic(auto, unfolding(crate::specs::Grades::grades_bad))]
     pub fn is_bad(self, medium: usize, pollutant: usize) -> bool
         ensures { result ≡ grades_bad self medium pollutant }
     {

@@ -27,6 +27,7 @@ pub fn entry_offset(f: &[u8]) -> usize
 }
 
 // Whether a table of any content and size has a header that fits.
+#[tactic(auto, unfolding(crate::specs::Table::fugitive_header_ok, search::specs::Test::every))]
 pub fn fugitive_header_ok(f: &[u8]) -> bool
     ensures { result ≡ fugitive_header_ok f.now }
 {

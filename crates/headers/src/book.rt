@@ -48,6 +48,7 @@ fn technique_offset(b: &[u8]) -> usize
 }
 
 // Whether a book of any content and size has a header that fits.
+#[tactic(auto, unfolding(crate::specs::Book::book_header_ok, search::specs::Test::every))]
 pub fn book_header_ok(b: &[u8]) -> bool
     ensures { result ≡ book_header_ok b.now }
 {
@@ -65,6 +66,7 @@ pub fn book_header_ok(b: &[u8]) -> bool
 }
 
 // The technique block is a part of the book that begins at its offset; of a book that has not so many bytes, what is there of it.
+#[tactic(auto, unfolding(crate::specs::Book::technique_block))]
 pub fn technique_block(b: &[u8]) -> &[u8]
     ensures { result.now ≡ technique_block b.now }
 {

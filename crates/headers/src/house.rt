@@ -8,6 +8,7 @@ use little::read::u32_at;
 pub const MOST_BYTES: usize = 65536;
 
 // The file has its header of so many bytes, is within the limit, and states at `origin` that its whole length is the bytes given.
+#[tactic(auto, unfolding(crate::specs::House::file_ok, search::specs::Test::every))]
 pub fn file_ok(file: &[u8], origin: usize, header: usize) -> bool
     ensures { result ≡ file_ok file.now origin header }
 {

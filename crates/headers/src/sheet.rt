@@ -27,6 +27,7 @@ pub fn line_offset(s: &[u8]) -> usize
 }
 
 // Whether a sheet of any content and size has a header that fits.
+#[tactic(auto, unfolding(crate::specs::Sheet::sheet_header_ok, search::specs::Test::every))]
 pub fn sheet_header_ok(s: &[u8]) -> bool
     ensures { result ≡ sheet_header_ok s.now }
 {

@@ -19,16 +19,15 @@ pub fn is_unit(code: u64) -> bool
 }
 
 // W for a code, in units of 10 micrograms. For a number that is none, a tonne.
+#[tactic(auto, unfolding(crate::specs::Unit::unit_of))]
 pub fn unit_from(code: u64) -> u64
     ensures { result ≡ unit_of code }
 {
-    if code == 1 {
-        return GRAM;
+    match code {
+        1 => GRAM,
+        2 => KILOGRAM,
+        _ => TONNE,
     }
-    if code == 2 {
-        return KILOGRAM;
-    }
-    TONNE
 }
 
 // W of a sheet.

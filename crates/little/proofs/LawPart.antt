@@ -1,28 +1,27 @@
 -- Parts of lists, read and written: `take` and `drop` at a place that is past the end, or is where two lists were joined. Assumes nothing.
-use Prim.Native.Nat.{ℕ, zero, suc, ◌+◌, ◌*◌, ◌-◌, ◌≤◌, ◌<◌}
+use Prim.Native.Nat.{ℕ, zero, suc, ◌+◌, ◌*◌, ◌≤◌, ◌<◌}
 use mathlib.Core.Path.{◌≡◌, refl, sym, ap, ◌∙◌}
-use mathlib.Core.List.{List, [], ◌++◌, append-nil}
-use native.Mathlib.Nat.{le_antisymm, mul-suc, zero-mul, suc-mul}
+use mathlib.Core.List.{List, [], ◌∷◌, ◌++◌, append-nil}
+use native.Mathlib.Nat.{le_antisymm, not-suc-le-zero, le_of_suc-le-suc, mul-suc, zero-mul, suc-mul}
 use native.Mathlib.Numerals.{add-one}
 use native.Mathlib.Omega.{arith}
-use lib.ListN.{length, take, drop, replicate, drop_of_length-le, length-drop, take-append-drop}
-use lib.Seq.{take-nil, take_all, take_at, drop_at, drop-drop, take-take, take-add, length-take-le}
+use lib.ListN.{length, set, take, drop, replicate, drop_of_length-le, take-append-drop}
+use lib.Seq.{take_at, drop_at, drop-drop, take-take, take-add, length-take-le}
 use borrow.Rule.Slice.PartMut.{put_mid}
 use Rattle.little.specs.Part.{part_of}
 
--- a part that begins past the end, and one that runs past it
-pub part_none : (s : List ℕ) (from count : ℕ) → length s ≤ from → [] ≡ part_of s from count
-part_none s from count h = sym (ap (take count) (drop_of_length-le s h) ∙ take-nil count)
+-- a fill from the front: one more entry, and that it reached the end
+fill_next : {X : Type 0} (v : X) (n : ℕ) (d : List X) → n < length d → set (replicate n v ++ drop n d) n v ≡ replicate (suc n) v ++ drop (suc n) d
+fill_next v n [] l = absurd (not-suc-le-zero l)
+fill_next v zero (x ∷ d) l = refl
+fill_next v (suc n) (x ∷ d) l = ap (λ t. v ∷ t) (fill_next v n d (le_of_suc-le-suc l))
 
-pub part_rest : (s : List ℕ) (from count : ℕ) → length s - from ≤ count → part_of s from (length s - from) ≡ part_of s from count
-part_rest s from count h =
-    let e : length (drop from s) ≡ length s - from = length-drop from s in
-    take_all (length s - from) (drop from s) (omega arith) ∙ sym (take_all count (drop from s) (omega arith))
+pub fill_more : {X : Type 0} (v : X) (n : ℕ) (d : List X) → n < length d → set (replicate n v ++ drop n d) n v ≡ replicate (n + 1) v ++ drop (n + 1) d
+fill_more v n d l = rw add-one (fill_next v n d l)
 
--- a fill from the front that reached the end
-pub fill_done : (d : List ℕ) (v i : ℕ) → length d ≤ i → i ≤ length d → replicate i v ++ drop i d ≡ replicate (length d) v
+pub fill_done : {X : Type 0} (d : List X) (v : X) (i : ℕ) → length d ≤ i → i ≤ length d → replicate i v ++ drop i d ≡ replicate (length d) v
 fill_done d v i h g =
-    ap (λ (t : List ℕ). replicate i v ++ t) (drop_of_length-le d h)
+    ap (λ t. replicate i v ++ t) (drop_of_length-le d h)
     ∙ append-nil (replicate i v)
     ∙ ap (λ (k : ℕ). replicate k v) (le_antisymm g h)
 

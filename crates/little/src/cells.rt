@@ -1,13 +1,11 @@
 // Lent cells.
 ghost use Rattle.std.specs.Prelude.{◌≡◌, length, replicate};
 
-// Every cell becomes 0; of no cells, none.
-pub fn clear(cells: &mut [u64])
-    ensures { cells.new ≡ replicate (length cells.old) 0 }
+// Every cell becomes 0, of whichever type of number; of no cells, none.
+pub fn clear<T: Copy + Default>(cells: &mut [T])
+    ensures { (zero : T) → ((x : T) → T.is_default x → x ≡ zero) → cells.new ≡ replicate (length cells.old) zero }
 {
-    let mut i = 0;
-    while i < cells.len() {
-        cells[i] = 0;
-        i += 1;
+    for i in 0..cells.len() {
+        cells[i] = T::default();
     }
 }

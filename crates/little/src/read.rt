@@ -25,6 +25,7 @@ pub fn byte_at(s: &[u8], at: usize) -> usize
 
 // The two bytes from `at` on, the low one first; of those past the end each counts as 0.
 // Where all bytes are there they are read together, by one test, here and below.
+#[tactic(auto, unfolding(crate::specs::Read::u16_at))]
 pub fn u16_at(s: &[u8], at: usize) -> usize
     ensures { Reads result (u16_at s.now at) u16_range }
 {
@@ -40,6 +41,7 @@ pub fn u16_at(s: &[u8], at: usize) -> usize
 }
 
 // The four bytes from `at` on, the low ones first; of those past the end each counts as 0.
+#[tactic(auto, unfolding(crate::specs::Read::u32_at, crate::specs::Read::u16_at))]
 pub fn u32_at(s: &[u8], at: usize) -> usize
     ensures { Reads result (u32_at s.now at) u32_range }
 {

@@ -1,4 +1,5 @@
 -- What is taken and what is not at the edges of both forms of a numeral, as computed tests over lists of texts. Assumes nothing.
+use Rattle.std.specs.Prelude.{Option, Some, None}
 use Prim.Native.Nat.{ℕ, ◌+◌, ◌-◌}
 use mathlib.Core.Path.{◌≡◌, refl}
 use mathlib.Core.Bool.{Bool, true, false}
@@ -9,17 +10,15 @@ use Rattle.search.specs.Test.{every}
 use Rattle.search.specs.First.{first}
 use Rattle.numerals.specs.Numeral.{zero_digit, significant, numeral, value_of, point}
 use Rattle.numerals.specs.Typed.{nine_digit, all_digits, is_numeral, number_in, point_in, places_in, decimal_in}
-use Rattle.numerals.specs.declared.typed.Typed.{Typed}
-use Rattle.numerals.specs.declared.typed.Typed.TheVariants.{Is, Malformed}
 
-abbrev is : ℕ → Typed → Bool
-is n (Is m) = eqb m n
-is n Malformed = false
+abbrev is : ℕ → Option ℕ → Bool
+is n (Some m) = eqb m n
+is n None = false
 
-abbrev none : List Typed → Bool
+abbrev none : List (Option ℕ) → Bool
 none [] = true
-none (Is n ∷ rest) = false
-none (Malformed ∷ rest) = none rest
+none (Some n ∷ rest) = false
+none (None ∷ rest) = none rest
 
 abbrev zeros : ℕ → List ℕ
 zeros n = replicate n zero_digit
@@ -29,7 +28,7 @@ nines n = replicate n nine_digit
 
 -- ---- numerals of at most 20 digits
 
-abbrev typed : (most : ℕ) (bytes : List ℕ) → Typed
+abbrev typed : (most : ℕ) (bytes : List ℕ) → Option ℕ
 typed most bytes = number_in 20 most bytes
 
 numbers_taken : every

@@ -1,25 +1,26 @@
 -- How a loop reads the digits that stand from a place on, and what these are as a numeral or a decimal numeral. Assumes nothing.
-use Prim.Native.Nat.{ℕ, ◌+◌, ◌-◌, ◌*◌, ◌≤◌, ◌<◌}
+use Rattle.std.specs.Prelude.{Option, Some, None}
+use Prim.Native.Nat.{ℕ, ◌+◌, ◌-◌, ◌*◌, ◌≤◌, ◌<◌, max}
 use mathlib.Core.Path.{◌≡◌, refl, sym, ap, ap₂, ◌∙◌}
 use mathlib.Core.Bool.{true, false, ◌&&◌, ◌||◌, and-false}
 use mathlib.Core.List.{List, [], ◌∷◌, ◌++◌, append_assoc, append-nil}
 use native.Mathlib.Nat.{add-zero}
+use Rattle.std.proofs.Math.Nat.{max-eq_left, max-eq_right}
 use native.Mathlib.Numerals.{add-one}
 use native.Mathlib.Omega.{arith}
 use lib.Dec.{leb, ltb, eqb}
 use lib.ListN.{length, drop, get_or, length-append, drop_of_length-le}
 use lib.Seq.{drop-cons, drop-drop, get_or-drop, take_at, drop-append-add}
 use borrow.Author.Tests.{le-leb, lt-leb, lt-ltb, le-ltb, leb-true, leb-false, ne_eqb, eqb-true, ltb-true, ltb-false}
+use Rattle.std.proofs.lemmas.Option.{some_pair_parts}
 use Rattle.little.specs.Read.{byte_at}
 use Rattle.little.proofs.LawRead.{byte_past}
 use Rattle.search.proofs.LawTest.{either_way, clash, and_left, or_left, or_right}
 use Rattle.numerals.specs.Numeral.{zero_digit, point, value_of}
 use Rattle.numerals.specs.Typed.{is_digit, all_digits, number_in, whole_digits, most_whole, places, most_places, as_places, places_in, joined, decimal_in}
-use Rattle.numerals.specs.Ahead.{most_before, digits_after, front_digits, ending_at, number_from, point_and_digits, front_decimal, decimal_from}
+use Rattle.numerals.specs.Ahead.{most_before, digits_after, front_digits, ahead, ending_at, number_from, point_and_digits, front_decimal, decimal_from}
 use Rattle.numerals.specs.Inner.{onward, digits_from, number_of, with_places, all_decimal}
-use Rattle.numerals.specs.declared.typed.Typed.{Typed}
-use Rattle.numerals.specs.declared.typed.Typed.TheVariants.{Is, Malformed}
-use Rattle.numerals.specs.declared.ahead.Ahead.TheVariants.{Number}
+use Rattle.numerals.specs.declared.ahead.Ahead.{Ahead}
 use Rattle.numerals.specs.declared.ahead.Digits.{Digits}
 use Rattle.numerals.proofs.LawTyped.{size_other, size_right}
 use Rattle.numerals.proofs.LawDecimal.{decimal_whole, decimal_parts}
@@ -46,6 +47,17 @@ module _ (text : List ℕ) (at : ℕ) where
     pub digits_past : length text ≤ i → record { value = v; end = i } ≡ digits_from text at
     unfolding digits_after
     digits_past h = stopped (rw (drop_of_length-le text {i = i} h))
+
+    -- a loop over the places of the text ends behind it, or where it began
+    pub digits_end : length text ≤ i → (at ≤ length text → i ≤ length text) → max at (length text) ≡ i
+    unfolding digits_after
+    digits_end h k =
+        either_way (leb at (length text))
+        (λ w. let l = leb-true at (length text) w in max-eq_right l ∙ (let e : length text ≡ i = omega (arith, k l) in e))
+        (λ w.
+        let past : length text ≤ at = omega (arith, leb-false at (length text) w) in
+        let none : i + 0 ≡ at + 0 = rw (drop_of_length-le text {i = i} h, drop_of_length-le text {i = at} past) at so_far.end in
+        max-eq_left past ∙ (let e : at ≡ i = omega arith in e))
 
     module _ (h : i < length text) where
       pub digits_other : is_digit (get_or text i 0) ≡ false → record { value = v; end = i } ≡ digits_from text at
@@ -105,16 +117,16 @@ module _ (digits most : ℕ) where
       (λ l. rw (l, le-ltb most (value_of 0 bytes) (leb-true (value_of 0 bytes) most l)))
       (λ l. rw (l, lt-ltb most (value_of 0 bytes) (omega (arith, leb-false (value_of 0 bytes) most l))))))
 
-  pub of_few : (size value n : ℕ) → number_of size value digits most ≡ Is n → (1 ≤ size) × (size ≤ digits) × (n ≤ most)
+  pub of_few : (size value n : ℕ) → number_of size value digits most ≡ Some n → (1 ≤ size) × (size ≤ digits) × (n ≤ most)
   unfolding number_of
   of_few size value n e =
       either_way (ltb size 1 || ltb digits size)
-      (λ q. let z : Malformed ≡ Is n = rw q at e in clash (cc))
+      (λ q. let z : None ≡ Some n = rw q at e in clash (cc))
       (λ q.
       either_way (ltb most value)
-      (λ l. let z : Malformed ≡ Is n = rw (q, l) at e in clash (cc))
+      (λ l. let z : None ≡ Some n = rw (q, l) at e in clash (cc))
       (λ l.
-      let same : Is value ≡ Is n = rw (q, l) at e in
+      let same : Some value ≡ Some n = rw (q, l) at e in
       let is : value ≡ n = cc in
       (ltb-false size 1 (or_left (ltb size 1) (ltb digits size) q), ltb-false digits size (or_right (ltb size 1) (ltb digits size) q), rw (← is) (ltb-false most value l))))
 
@@ -153,7 +165,7 @@ module _ (text : List ℕ) (at : ℕ) (d : Digits) (e : d ≡ digits_from text a
   behind = drop-drop (length front) at text ∙ ap (λ (k : ℕ). drop k text) (sym end_is)
 
   pub decimal_plain : (byte_at text d.end ≡ point → ⊥)
-      → ending_at d.end (joined (number_of (d.end - at) d.value whole_digits most_whole) (Is 0)) ≡ decimal_from text at
+      → ending_at d.end (joined (number_of (d.end - at) d.value whole_digits most_whole) (Some 0)) ≡ decimal_from text at
   unfolding decimal_from front_decimal
   decimal_plain other =
       rw (behind, no_more (drop d.end text) first_is, append-nil front, decimal_whole front (no_point front (after_digits 0 (drop at text))), front_number whole_digits most_whole, end_is) refl
@@ -214,20 +226,25 @@ module _ (t : List ℕ) where
 
 -- ---- what was read from a place on: bytes that stand there, and their number
 
-pub record Stands (text : List ℕ) (at : ℕ) (meaning : List ℕ → Typed) (n end : ℕ) : Type 0 where
+pub record Stands (text : List ℕ) (at : ℕ) (meaning : List ℕ → Option ℕ) (n end : ℕ) : Type 0 where
   pub bytes : List ℕ
   pub decimal : all_decimal bytes ≡ true
   pub there : drop at text ≡ bytes ++ drop (at + length bytes) text
   pub ends : end ≡ at + length bytes
-  pub is : meaning bytes ≡ Is n
+  pub is : meaning bytes ≡ Some n
 
-ending_is : (e n end : ℕ) (typed : Typed) → ending_at e typed ≡ Number n end → (typed ≡ Is n) × (end ≡ e)
-ending_is e n end (Is m) same = (cc, cc)
-ending_is e n end Malformed same = clash (cc)
+ahead_parts : Option Ahead → Option (ℕ × ℕ)
+ahead_parts (Some a) = Some (a.number, a.end)
+ahead_parts None = None
+
+ending_is : (e n end : ℕ) (typed : Option ℕ) → ending_at e typed ≡ ahead n end → (typed ≡ Some n) × (end ≡ e)
+unfolding ahead_parts
+ending_is e n end (Some m) same = let parts = some_pair_parts m n e end (ap ahead_parts same) in (ap Some parts.0, sym parts.1)
+ending_is e n end None same = clash (cc)
 
 module _ (text : List ℕ) (at n end : ℕ) where
-  stands : (meaning : List ℕ → Typed) (bytes : List ℕ) → all_decimal bytes ≡ true → drop at text ≡ bytes ++ drop (length bytes) (drop at text)
-      → ending_at (at + length bytes) (meaning bytes) ≡ Number n end → Stands text at meaning n end
+  stands : (meaning : List ℕ → Option ℕ) (bytes : List ℕ) → all_decimal bytes ≡ true → drop at text ≡ bytes ++ drop (length bytes) (drop at text)
+      → ending_at (at + length bytes) (meaning bytes) ≡ ahead n end → Stands text at meaning n end
   stands meaning bytes decimal split e =
       let is = ending_is (at + length bytes) n end (meaning bytes) e in
       record {
@@ -238,10 +255,10 @@ module _ (text : List ℕ) (at n end : ℕ) where
         is = is.0;
       }
 
-  pub number_stands : (digits most : ℕ) → number_from digits most text at ≡ Number n end → Stands text at (number_in digits most) n end
+  pub number_stands : (digits most : ℕ) → number_from digits most text at ≡ ahead n end → Stands text at (number_in digits most) n end
   unfolding number_from
   number_stands digits most e = stands (number_in digits most) (front_digits (drop at text)) (digits_bytes (drop at text)) (digits_split (drop at text)) e
 
-  pub decimal_stands : decimal_from text at ≡ Number n end → Stands text at decimal_in n end
+  pub decimal_stands : decimal_from text at ≡ ahead n end → Stands text at decimal_in n end
   unfolding decimal_from
   decimal_stands e = stands decimal_in (front_decimal (drop at text)) (decimal_front_bytes (drop at text)) (decimal_front_split (drop at text)) e

@@ -1,5 +1,6 @@
 -- What is written: its bytes, its length, its first digit, and that it is read again, a numeral as its number, a decimal numeral as its
 -- thousandths. Assumes nothing.
+use Rattle.std.specs.Prelude.{Some, None}
 use Prim.Native.Nat.{ℕ, zero, suc, ◌+◌, ◌*◌, ◌/◌, ◌%◌, ◌^◌, ◌≤◌, ◌<◌}
 use mathlib.Core.Path.{◌≡◌, refl, sym, ap, ◌∙◌}
 use mathlib.Core.Bool.{true, false}
@@ -15,11 +16,9 @@ use Rattle.search.specs.Test.{every}
 use Rattle.search.proofs.LawTest.{either_way, and_left, and_right}
 use Rattle.search.proofs.LawFirst.{first_start, first_rest, first_here}
 use Rattle.search.specs.First.{first}
-use Rattle.search.specs.declared.found.Found.TheVariants.{At, Nothing}
 use Rattle.numerals.specs.Numeral.{most_digits, zero_digit, digit, significant, numeral, value_of, point, thousand, decimal_numeral}
 use Rattle.numerals.specs.Typed.{nine_digit, is_digit, all_digits, is_numeral, number_in, places, whole_digits, most_whole, most_places, is_point_at, point_in, whole_in, places_in, decimal_in}
 use Rattle.numerals.specs.Inner.{all_decimal}
-use Rattle.numerals.specs.declared.typed.Typed.TheVariants.{Is}
 use Rattle.numerals.proofs.LawNumeral.{significant_few}
 use Rattle.numerals.proofs.LawValue.{numeral_value}
 use Rattle.numerals.proofs.LawTyped.{digit_low}
@@ -125,12 +124,12 @@ numeral_leads n h e =
 
 -- ---- its number
 
-short_back : (digits most n : ℕ) → n ≤ most → n < 10 ^ most_digits → length (numeral n) ≤ digits → number_in digits most (numeral n) ≡ Is n
+short_back : (digits most n : ℕ) → n ≤ most → n < 10 ^ most_digits → length (numeral n) ≤ digits → number_in digits most (numeral n) ≡ Some n
 unfolding number_in is_numeral every
 short_back digits most n within fits few =
     rw (numeral_value n fits, le-leb 1 (length (numeral n)) (numeral_some n), le-leb (length (numeral n)) digits few, numeral_digits n, le-leb n most within)
 
-pub number_back : (digits most n : ℕ) → n ≤ most → n < 10 ^ most_digits → most_digits ≤ digits → number_in digits most (numeral n) ≡ Is n
+pub number_back : (digits most n : ℕ) → n ≤ most → n < 10 ^ most_digits → most_digits ≤ digits → number_in digits most (numeral n) ≡ Some n
 number_back digits most n within fits room = short_back digits most n within fits (le_trans (numeral_few n) room)
 
 -- ---- a decimal numeral's thousandths
@@ -144,13 +143,13 @@ digits_at (b ∷ bytes) (suc i) h l = digits_at bytes i (and_right (is_digit b) 
 digit_no_point : (bytes : List ℕ) (i : ℕ) → all_digits bytes ≡ true → i < length bytes → is_point_at bytes i ≡ false
 digit_no_point bytes i h l = ne_eqb (get_or bytes i 0) point (λ e. omega (arith, digit_low (get_or bytes i 0) (digits_at bytes i h l)))
 
-pub no_point : (bytes : List ℕ) → all_digits bytes ≡ true → point_in bytes ≡ Nothing
+pub no_point : (bytes : List ℕ) → all_digits bytes ≡ true → point_in bytes ≡ None
 unfolding point_in
 no_point bytes h =
     first_rest (is_point_at bytes) 0 (length bytes) (first_start (is_point_at bytes)) (omega arith) (λ i a b. digit_no_point bytes i h b)
 
 -- the point is the first byte that is no digit
-pub point_at : (whole rest : List ℕ) → all_digits whole ≡ true → point_in (whole ++ (point ∷ rest)) ≡ At (length whole)
+pub point_at : (whole rest : List ℕ) → all_digits whole ≡ true → point_in (whole ++ (point ∷ rest)) ≡ Some (length whole)
 unfolding point_in
 point_at whole rest h =
     sym (first_here (is_point_at bytes) (length whole) (length bytes) none (eq-eqb _ _ (get_or-append_seam whole point rest 0)) within)
@@ -161,7 +160,7 @@ point_at whole rest h =
     before : (i : ℕ) → i < length whole → is_point_at bytes i ≡ false
     before i l = rw (get_or-append whole (point ∷ rest) 0 i l) (digit_no_point whole i h l)
 
-    none : first (length whole) (is_point_at bytes) ≡ Nothing
+    none : first (length whole) (is_point_at bytes) ≡ None
     none = first_rest (is_point_at bytes) 0 (length whole) (first_start (is_point_at bytes)) (omega arith) (λ i a b. before i b)
 
     within : length whole < length bytes
@@ -178,24 +177,24 @@ three_value t =
     let rest : t % thousand + thousand * (t / thousand) ≡ t = omega arith in
     omega arith
 
-three_number : (t : ℕ) → number_in places most_places (three_digits t) ≡ Is (t % thousand)
+three_number : (t : ℕ) → number_in places most_places (three_digits t) ≡ Some (t % thousand)
 unfolding number_in is_numeral every all_digits
 three_number t = rw (three_value t, digit_is (t / 100), digit_is (t / 10), digit_is t, le-leb (t % thousand) most_places (omega arith))
 
-three_places : (t : ℕ) → places_in (three_digits t) ≡ Is (t % thousand)
-three_places t = places_scaled (three_digits t) (t % thousand) (three_number t) 3 1 refl refl ∙ ap Is (mul-one (t % thousand))
+three_places : (t : ℕ) → places_in (three_digits t) ≡ Some (t % thousand)
+three_places t = places_scaled (three_digits t) (t % thousand) (three_number t) 3 1 refl refl ∙ ap Some (mul-one (t % thousand))
 
-pub decimal_back : (t : ℕ) → t < 10 ^ 14 → decimal_in (decimal_numeral t) ≡ Is t
+pub decimal_back : (t : ℕ) → t < 10 ^ 14 → decimal_in (decimal_numeral t) ≡ Some t
 unfolding decimal_numeral
 decimal_back t h =
     let whole = numeral (t / thousand) in
     let point-here = point_at whole (three_digits t) (numeral_digits (t / thousand)) in
     let few = numeral_short whole_digits (t / thousand) (omega arith) (omega arith) in
-    let before : whole_in whole ≡ Is (t / thousand) = short_back whole_digits most_whole (t / thousand) (omega arith) (omega arith) few in
+    let before : whole_in whole ≡ Some (t / thousand) = short_back whole_digits most_whole (t / thousand) (omega arith) (omega arith) few in
     let sum : t / thousand * thousand + t % thousand ≡ t = omega arith in
     decimal_parts (decimal_numeral t) (length whole) point-here
     ∙ rw (take_at whole (point ∷ three_digits t) (length whole) refl, drop-append-add whole (point ∷ three_digits t) 1, before, three_places t, sum)
 
-pub zero_decimal : decimal_in (numeral 0) ≡ Is 0
+pub zero_decimal : decimal_in (numeral 0) ≡ Some 0
 unfolding numeral decimal_in point_in first number_in is_numeral every all_digits value_of
 zero_decimal = refl

@@ -1,21 +1,22 @@
 -- A decimal numeral as it was typed: its point, its places, its size. Assumes nothing.
+use Rattle.std.specs.Prelude.{Option, Some, None}
 use Prim.Native.Nat.{ℕ, ◌+◌, ◌-◌, ◌*◌, ◌^◌, ◌≤◌, ◌<◌}
-use mathlib.Core.Path.{◌≡◌, refl, ap}
+use mathlib.Core.Path.{◌≡◌, refl, sym, ap}
 use mathlib.Core.Bool.{true}
 use mathlib.Core.List.{List, [], ◌∷◌}
 use native.Mathlib.Nat.{pow-suc, one-le-pow, mul-le-mul_right, mul-lt-mul_of_pos_right}
 use native.Mathlib.Omega.{arith}
-use lib.ListN.{length, take, drop}
+use lib.ListN.{length, take, drop, get_or}
 use lib.Pow.{pow-add}
-use borrow.Author.Tests.{leb-true}
+use borrow.Author.Tests.{leb-true, eq-eqb, ne_eqb}
 use Rattle.search.proofs.LawTest.{clash, and_left, and_right, every_at}
-use Rattle.search.proofs.LawFirst.{first_below}
-use Rattle.search.specs.declared.found.Found.TheVariants.{At, Nothing}
-use Rattle.numerals.specs.Numeral.{zero_digit, value_of}
+use Rattle.search.proofs.LawFirst.{first_below, first_start, first_rest, first_here}
+use Rattle.search.specs.First.{first}
+use Rattle.std.specs.Option.{MatchOption}
+use Rattle.std.specs.List.{AllWithin, HoldsAt}
+use Rattle.numerals.specs.Numeral.{zero_digit, value_of, point}
 use Rattle.numerals.specs.Typed.{is_digit, all_digits, is_numeral, number_in, places, most_places, is_point_at, point_in, whole_in, places_in, as_places, joined, decimal_in}
 use Rattle.numerals.specs.Inner.{AtMost}
-use Rattle.numerals.specs.declared.typed.Typed.{Typed}
-use Rattle.numerals.specs.declared.typed.Typed.TheVariants.{Is, Malformed}
 use Rattle.numerals.proofs.LawTyped.{digit_high, number_is, number_most}
 
 -- so many digits are a number below that power of ten
@@ -32,7 +33,7 @@ value_below so_far (b ∷ bytes) h =
 -- ---- the places
 
 module _ (bytes : List ℕ) where
-  module _ (n : ℕ) (e : number_in places most_places bytes ≡ Is n) where
+  module _ (n : ℕ) (e : number_in places most_places bytes ≡ Some n) where
     -- 1 to 3 of them
     pub places_few : (1 ≤ length bytes) × (length bytes ≤ places) × (n ≤ most_places)
     unfolding is_numeral
@@ -40,7 +41,7 @@ module _ (bytes : List ℕ) where
         let is = number_is places most_places bytes n e in
         (leb-true 1 (length bytes) (every_at _ is.0 0), leb-true (length bytes) places (every_at _ is.0 1), number_most places most_places bytes n e)
 
-    pub places_scaled : (k scale : ℕ) → length bytes ≡ k → 10 ^ (places - k) ≡ scale → places_in bytes ≡ Is (n * scale)
+    pub places_scaled : (k scale : ℕ) → length bytes ≡ k → 10 ^ (places - k) ≡ scale → places_in bytes ≡ Some (n * scale)
     unfolding places_in
     places_scaled k scale l s = rw (e, l, s)
 
@@ -58,21 +59,34 @@ module _ (bytes : List ℕ) where
   unfolding places_in
   places_most n h = go (number_in places most_places bytes) refl h
     where
-      go : (typed : Typed) → number_in places most_places bytes ≡ typed → as_places (length bytes) typed ≡ Is n → n ≤ most_places
-      go (Is m) e q = let same : m * 10 ^ (places - length bytes) ≡ n = cc in omega (arith, below m e)
-      go Malformed e q = clash (cc)
+      go : (typed : Option ℕ) → number_in places most_places bytes ≡ typed → as_places (length bytes) typed ≡ Some n → n ≤ most_places
+      go (Some m) e q = let same : m * 10 ^ (places - length bytes) ≡ n = cc in omega (arith, below m e)
+      go None e q = clash (cc)
 
-pub none_most : (most : ℕ) → AtMost most (Is 0)
+pub none_most : (most : ℕ) → AtMost most (Some 0)
 none_most most n e = let same : ◌≡◌ {A = ℕ} 0 n = cc in omega arith
 
 -- ---- the point
 
+none_below : (bytes : List ℕ) (n : ℕ) → AllWithin (λ b. b ≡ point → ⊥) bytes 0 n → first n (is_point_at bytes) ≡ None
+none_below bytes n h =
+    first_rest (is_point_at bytes) 0 n (first_start (is_point_at bytes)) (omega arith) (λ i a b. ne_eqb (get_or bytes i 0) point (h i 0 a b))
+
+-- what a search for it answers
+pub point_found : (bytes : List ℕ) (r : Option ℕ)
+    → MatchOption r (AllWithin (λ b. b ≡ point → ⊥) bytes 0 (length bytes))
+    (λ i. (i < length bytes) × HoldsAt (λ b. b ≡ point) bytes i × AllWithin (λ b. b ≡ point → ⊥) bytes 0 i)
+    → r ≡ point_in bytes
+unfolding point_in
+point_found bytes None h = sym (none_below bytes (length bytes) h)
+point_found bytes (Some i) h = first_here (is_point_at bytes) i (length bytes) (none_below bytes i h.2) (eq-eqb (get_or bytes i 0) point (h.1 0)) h.0
+
 module _ (bytes : List ℕ) where
-  pub decimal_whole : point_in bytes ≡ Nothing → decimal_in bytes ≡ joined (whole_in bytes) (Is 0)
+  pub decimal_whole : point_in bytes ≡ None → decimal_in bytes ≡ joined (whole_in bytes) (Some 0)
   unfolding decimal_in
   decimal_whole e = rw e
 
-  module _ (i : ℕ) (e : point_in bytes ≡ At i) where
+  module _ (i : ℕ) (e : point_in bytes ≡ Some i) where
     pub point_below : i < length bytes
     unfolding point_in
     point_below = first_below (is_point_at bytes) (length bytes) i e

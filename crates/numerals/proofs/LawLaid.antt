@@ -6,9 +6,9 @@ use mathlib.Core.List.{List, [], ◌∷◌, ◌++◌, append_assoc}
 use native.Mathlib.Nat.{zero-add, add-zero, add-suc, suc-add}
 use native.Mathlib.Numerals.{add-one}
 use native.Mathlib.Omega.{arith}
-use lib.ListN.{length, take, drop, get_or, set, replicate, length-append, length-replicate, replicate-append-replicate}
-use lib.Seq.{sets-eq, set_out, set_comm, length-sets, length-take-le, take-suc, take_all}
-use Rattle.little.proofs.LawPart.{fill_done}
+use lib.ListN.{length, take, drop, get_or, set, length-append}
+use lib.Seq.{drop-drop, sets-eq, set_out, set_comm, length-sets, length-take-le, take-suc}
+use borrow.Rule.Slice.PartMut.{put_mid}
 use Rattle.numerals.specs.Laid.{laid, Lays}
 
 pub length_laid : (at : ℕ) (bytes text : List ℕ) → length (laid at bytes text) ≡ length text
@@ -70,20 +70,12 @@ laid_step at i bytes text h e =
     let size : length (take i bytes) ≡ i = length-take-le i bytes (omega arith) in
     rw (add-one, take-suc bytes i 0 h) (laid_next at (get_or bytes i 0) (take i bytes) text size e)
 
-pub laid_done : (at i : ℕ) (bytes text text' : List ℕ) → text' ≡ laid at (take i bytes) text → length bytes ≤ i → text' ≡ laid at bytes text
-laid_done at i bytes text text' e h = e ∙ ap (λ (b : List ℕ). laid at b text) (take_all i bytes h)
+-- ---- a part of the text, stored over
 
--- ---- a loop that lays zeros, i of them so far
-
-pub zeros_step : (i : ℕ) (text : List ℕ) {x : List ℕ} → x ≡ laid 0 (replicate i 0) text
-    → laid (0 + i) (0 ∷ []) x ≡ laid 0 (replicate (i + 1) 0) text
-zeros_step i text e =
-    rw (← replicate-append-replicate {A = ℕ} i 1 0) (laid_next 0 0 (replicate i 0) text (length-replicate i 0) e)
-
-pub zeros_done : (i : ℕ) (text : List ℕ) → length text ≤ i → i ≤ length text → laid 0 (replicate i 0) text ≡ replicate (length text) 0
-zeros_done i text h g =
-    let size : length {A = ℕ} (replicate i 0) ≡ i = length-replicate i 0 in
-    laid_is (replicate i 0) text (omega arith) ∙ rw size (fill_done text 0 i h g)
+pub laid_over : (at k : ℕ) (bytes text x : List ℕ) → x ≡ bytes → k ≡ length bytes → at + length bytes ≤ length text
+    → put_mid at k text x ≡ laid at bytes text
+unfolding laid
+laid_over at k bytes text x e size h = rw (e, size, sets-eq bytes text at h, drop-drop (length bytes) at text, append_assoc)
 
 -- ---- the first run after the second, which begins where it ends
 

@@ -1,15 +1,14 @@
 -- How a loop writes digits, the last first: each turn moves the last digit of what is left in front of those that stand. Assumes nothing.
 use Prim.Native.Nat.{ℕ, zero, suc, ◌-◌, ◌/◌, ◌≤◌, ◌<◌}
 use mathlib.Core.Path.{◌≡◌, refl, ◌∙◌}
-use mathlib.Core.Bool.{true, false, ◌&&◌}
 use mathlib.Core.List.{List, [], ◌∷◌, ◌++◌, append_assoc, append-nil}
 use native.Mathlib.Numerals.{sub-one}
 use native.Mathlib.Omega.{arith}
-use lib.Dec.{eqb, ltb}
+use lib.Dec.{eqb}
 use lib.ListN.{length, take, drop, set, length-set, length-append, length-drop, drop_of_length-le}
 use lib.Seq.{take_all, drop-cons, get_or-set_same, drop-set-lt}
-use borrow.Author.Tests.{lt-ltb, eq-eqb, ne_eqb, ltb-true}
-use Rattle.search.proofs.LawTest.{and_left, and_right, either_way, clash}
+use borrow.Author.Tests.{eq-eqb, ne_eqb}
+use Rattle.search.proofs.LawTest.{either_way}
 use Rattle.numerals.specs.Laid.{Lays}
 use Rattle.numerals.specs.Numeral.{most_digits, zero_digit, digit, significant, numeral}
 use Rattle.numerals.specs.Inner.{Ends}
@@ -21,28 +20,17 @@ stored k v t h =
     rw (drop-cons (set t k v) k 0 l, get_or-set_same t k v 0 h, drop-set-lt (suc k) t k v (omega arith))
 
 -- a turn
-pub digits_step : (i n : ℕ) (t : List ℕ) → (ltb 0 i && ltb 0 n) ≡ true → i ≤ length t
+pub digits_step : (i n : ℕ) (t : List ℕ) → 0 < i → (n ≡ 0 → ⊥) → i ≤ length t
     → significant (i - 1) (n / 10) ++ drop (i - 1) (set t (i - 1) (digit n)) ≡ significant i n ++ drop i t
 unfolding significant
-digits_step zero n t h l = clash (cc)
-digits_step (suc k) n t h l =
-    let some : 0 < n = ltb-true 0 n (and_right (ltb 0 (suc k)) (ltb 0 n) h) in
-    let e : eqb n 0 ≡ false = ne_eqb n 0 (λ z. omega arith) in
-    rw (sub-one, e, stored k (digit n) t (omega arith), append_assoc)
+digits_step zero n t h some l = absurd (omega arith)
+digits_step (suc k) n t h some l = rw (sub-one, ne_eqb n 0 some, stored k (digit n) t (omega arith), append_assoc)
 
--- no turn is left
-pub digits_done : (i n : ℕ) (t : List ℕ) → (ltb 0 i && ltb 0 n) ≡ false → significant i n ++ drop i t ≡ drop i t
+-- nothing is left of the number
+pub digits_done : (i n : ℕ) (t : List ℕ) → n ≡ 0 → significant i n ++ drop i t ≡ drop i t
 unfolding significant
-digits_done zero n t h = refl
-digits_done (suc k) zero t h = refl
-digits_done (suc k) (suc m) t h =
-    let a : ltb 0 (suc k) ≡ true = lt-ltb 0 (suc k) (omega arith) in
-    let b : ltb 0 (suc m) ≡ true = lt-ltb 0 (suc m) (omega arith) in
-    let both : (true && true) ≡ false = rw (a, b) at h in
-    clash (cc)
-
-pub digits_some : (i n : ℕ) → (ltb 0 i && ltb 0 n) ≡ true → 0 < i
-digits_some i n h = ltb-true 0 i (and_left (ltb 0 i) (ltb 0 n) h)
+digits_done zero n t none = refl
+digits_done (suc k) n t none = rw (eq-eqb n 0 none)
 
 pub digits_start : (n : ℕ) (t : List ℕ) → length t ≡ most_digits → significant most_digits n ++ drop most_digits t ≡ significant most_digits n
 digits_start n t h = rw (drop_of_length-le t {i = most_digits} (omega arith), append-nil)

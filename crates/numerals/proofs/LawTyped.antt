@@ -1,5 +1,6 @@
 -- How a loop reads a number as it was typed, from the front, and how large it can be. A digit more never makes a number smaller, so that
 -- the loop may stop where the number passes its limit. Assumes nothing.
+use Rattle.std.specs.Prelude.{Some, None}
 use Prim.Native.Nat.{ℕ, ◌+◌, ◌-◌, ◌*◌, ◌≤◌, ◌<◌}
 use mathlib.Core.Path.{◌≡◌}
 use mathlib.Core.Bool.{true, false, ◌||◌, and-false}
@@ -15,7 +16,6 @@ use Rattle.search.specs.Test.{every}
 use Rattle.numerals.specs.Numeral.{zero_digit, value_of}
 use Rattle.numerals.specs.Typed.{nine_digit, is_digit, all_digits, is_numeral, number_in}
 use Rattle.numerals.specs.Inner.{onward}
-use Rattle.numerals.specs.declared.typed.Typed.TheVariants.{Is, Malformed}
 
 -- ---- a numeral
 
@@ -38,25 +38,25 @@ module _ (most v i : ℕ) (bytes : List ℕ) (h : i < length bytes) where
   unfolding onward all_digits value_of
   onward_digit d = rw (add-one, drop-cons bytes i 0 h, d)
 
-  pub onward_other : is_digit (get_or bytes i 0) ≡ false → onward most v (drop i bytes) ≡ Malformed
+  pub onward_other : is_digit (get_or bytes i 0) ≡ false → onward most v (drop i bytes) ≡ None
   unfolding onward all_digits
   onward_other d = rw (drop-cons bytes i 0 h, d)
 
-  pub onward_over : most < 10 * v + (get_or bytes i 0 - zero_digit) → onward most v (drop i bytes) ≡ Malformed
+  pub onward_over : most < 10 * v + (get_or bytes i 0 - zero_digit) → onward most v (drop i bytes) ≡ None
   unfolding onward value_of
   onward_over over =
       let next = 10 * v + (get_or bytes i 0 - zero_digit) in
       let all : most < value_of next (drop (i + 1) bytes) = omega (arith, value_grows next (drop (i + 1) bytes)) in
       rw (drop-cons bytes i 0 h, ← add-one, lt-leb (value_of next (drop (i + 1) bytes)) most all, and-false)
 
-pub onward_done : (most v i : ℕ) (bytes : List ℕ) → length bytes ≤ i → v ≤ most → onward most v (drop i bytes) ≡ Is v
+pub onward_done : (most v i : ℕ) (bytes : List ℕ) → length bytes ≤ i → v ≤ most → onward most v (drop i bytes) ≡ Some v
 unfolding onward all_digits value_of
 onward_done most v i bytes h l = rw (drop_of_length-le bytes h, le-leb v most l)
 
 -- ---- the length, which is looked at first
 
 module _ (digits most : ℕ) (bytes : List ℕ) where
-  pub size_other : (ltb (length bytes) 1 || ltb digits (length bytes)) ≡ true → number_in digits most bytes ≡ Malformed
+  pub size_other : (ltb (length bytes) 1 || ltb digits (length bytes)) ≡ true → number_in digits most bytes ≡ None
   unfolding number_in is_numeral every
   size_other h =
       either_way (ltb (length bytes) 1) (λ e. rw (lt-leb 1 (length bytes) (ltb-true (length bytes) 1 e)))
@@ -73,14 +73,14 @@ module _ (digits most : ℕ) (bytes : List ℕ) where
 
   -- ---- what a number that was read says of the bytes
 
-  pub number_is : (n : ℕ) → number_in digits most bytes ≡ Is n → (is_numeral digits most bytes ≡ true) × (value_of 0 bytes ≡ n)
+  pub number_is : (n : ℕ) → number_in digits most bytes ≡ Some n → (is_numeral digits most bytes ≡ true) × (value_of 0 bytes ≡ n)
   unfolding number_in
   number_is n e =
       either_way (is_numeral digits most bytes)
-      (λ t. let same : Is (value_of 0 bytes) ≡ Is n = rw t at e in (t, cc))
-      (λ t. let other : Malformed ≡ Is n = rw t at e in clash (cc))
+      (λ t. let same : Some (value_of 0 bytes) ≡ Some n = rw t at e in (t, cc))
+      (λ t. let other : None ≡ Some n = rw t at e in clash (cc))
 
-  pub number_most : (n : ℕ) → number_in digits most bytes ≡ Is n → n ≤ most
+  pub number_most : (n : ℕ) → number_in digits most bytes ≡ Some n → n ≤ most
   unfolding is_numeral
   number_most n e =
       let is = number_is n e in

@@ -1,10 +1,8 @@
 -- What private functions and laws use, beside what a promise says. Nothing here is needed to read a promise. Assumes nothing.
-use Rattle.std.specs.Prelude.{ℕ, ◌+◌, ◌≤◌, ◌≡◌, Bool, true, cond, ◌&&◌, ◌||◌, List, [], ◌∷◌, leb, ltb, eqb, length, drop}
+use Rattle.std.specs.Prelude.{ℕ, ◌+◌, ◌≤◌, ◌≡◌, Bool, true, cond, ◌&&◌, ◌||◌, List, [], ◌∷◌, leb, ltb, eqb, length, drop, Option, Some, None}
 use Rattle.numerals.specs.Numeral.{most_digits, point, value_of}
 use Rattle.numerals.specs.Typed.{is_digit, all_digits, places, most_places, places_in, joined}
 use Rattle.numerals.specs.Ahead.{front_digits, ending_at}
-use Rattle.numerals.specs.declared.typed.Typed.{Typed}
-use Rattle.numerals.specs.declared.typed.Typed.TheVariants.{Is, Malformed}
 use Rattle.numerals.specs.declared.ahead.Ahead.{Ahead}
 use Rattle.numerals.specs.declared.ahead.Digits.{Digits}
 
@@ -15,16 +13,16 @@ pub record Ends (digits : List ℕ) (r : ℕ) (list : List ℕ) : Type 0 where
   pub ends : drop r list ≡ digits
 
 -- the number of bytes that are all digits, behind the number that was read so far, where it is at most `most`
-unfoldable pub onward : (most so_far : ℕ) (bytes : List ℕ) → Typed
-onward most so_far bytes = cond (all_digits bytes && leb (value_of so_far bytes) most) (Is (value_of so_far bytes)) Malformed
+unfoldable pub onward : (most so_far : ℕ) (bytes : List ℕ) → Option ℕ
+onward most so_far bytes = cond (all_digits bytes && leb (value_of so_far bytes) most) (Some (value_of so_far bytes)) None
 
 -- a number, if it is one, is at most so large
-abbrev pub AtMost : (most : ℕ) (typed : Typed) → Type 0
-AtMost most typed = (n : ℕ) → typed ≡ Is n → n ≤ most
+abbrev pub AtMost : (most : ℕ) (typed : Option ℕ) → Type 0
+AtMost most typed = (n : ℕ) → typed ≡ Some n → n ≤ most
 
 -- 1 to 3 digits, if they are a number
-abbrev pub FewPlaces : (size : ℕ) (digits : Typed) → Type 0
-FewPlaces size digits = (n : ℕ) → digits ≡ Is n → (1 ≤ size) × (size ≤ places) × (n ≤ most_places)
+abbrev pub FewPlaces : (size : ℕ) (digits : Option ℕ) → Type 0
+FewPlaces size digits = (n : ℕ) → digits ≡ Some n → (1 ≤ size) × (size ≤ places) × (n ≤ most_places)
 
 -- ---- a number from a place on
 
@@ -34,11 +32,11 @@ digits_from text at =
     record { value = value_of 0 (front_digits (drop at text)); end = at + length (front_digits (drop at text)) }
 
 -- the number of so many digits
-unfoldable pub number_of : (size value digits most : ℕ) → Typed
-number_of size value digits most = cond (ltb size 1 || ltb digits size) Malformed (cond (ltb most value) Malformed (Is value))
+unfoldable pub number_of : (size value digits most : ℕ) → Option ℕ
+number_of size value digits most = cond (ltb size 1 || ltb digits size) None (cond (ltb most value) None (Some value))
 
 -- the places from there on, behind what stands before the point
-unfoldable pub with_places : (text : List ℕ) (at : ℕ) (whole : Typed) → Ahead
+unfoldable pub with_places : (text : List ℕ) (at : ℕ) (whole : Option ℕ) → Option Ahead
 with_places text at whole =
     ending_at (at + length (front_digits (drop at text))) (joined whole (places_in (front_digits (drop at text))))
 

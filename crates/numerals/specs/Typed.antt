@@ -1,13 +1,9 @@
 -- A number as it was typed: a numeral, or a decimal numeral. Assumes nothing.
-use Rattle.std.specs.Prelude.{ℕ, ◌+◌, ◌-◌, ◌*◌, ◌^◌, Bool, true, cond, ◌&&◌, List, [], ◌∷◌, leb, eqb, length, take, drop}
+use Rattle.std.specs.Prelude.{ℕ, ◌+◌, ◌-◌, ◌*◌, ◌^◌, Bool, true, cond, ◌&&◌, List, [], ◌∷◌, leb, eqb, length, take, drop, Option, Some, None}
 use Rattle.little.specs.Read.{byte_at}
 use Rattle.search.specs.Test.{every}
 use Rattle.search.specs.First.{first}
-use Rattle.search.specs.declared.found.Found.{Found}
-use Rattle.search.specs.declared.found.Found.TheVariants.{At, Nothing}
 use Rattle.numerals.specs.Numeral.{zero_digit, value_of, point, thousand}
-use Rattle.numerals.specs.declared.typed.Typed.{Typed}
-use Rattle.numerals.specs.declared.typed.Typed.TheVariants.{Is, Malformed}
 
 abbrev pub nine_digit : ℕ
 nine_digit = 57
@@ -24,8 +20,8 @@ unfoldable pub is_numeral : (digits most : ℕ) (bytes : List ℕ) → Bool
 is_numeral digits most bytes =
     every (leb 1 (length bytes) ∷ leb (length bytes) digits ∷ all_digits bytes ∷ leb (value_of 0 bytes) most ∷ [])
 
-unfoldable pub number_in : (digits most : ℕ) (bytes : List ℕ) → Typed
-number_in digits most bytes = cond (is_numeral digits most bytes) (Is (value_of 0 bytes)) Malformed
+unfoldable pub number_in : (digits most : ℕ) (bytes : List ℕ) → Option ℕ
+number_in digits most bytes = cond (is_numeral digits most bytes) (Some (value_of 0 bytes)) None
 
 -- ---- a decimal numeral, in thousandths: 1 to 11 digits, with or without a point and 1 to 3 more
 
@@ -46,29 +42,29 @@ most_places = 999
 abbrev pub is_point_at : (bytes : List ℕ) (i : ℕ) → Bool
 is_point_at bytes i = eqb (byte_at bytes i) point
 
-unfoldable pub point_in : (bytes : List ℕ) → Found
+unfoldable pub point_in : (bytes : List ℕ) → Option ℕ
 point_in bytes = first (length bytes) (is_point_at bytes)
 
-abbrev pub whole_in : (bytes : List ℕ) → Typed
+abbrev pub whole_in : (bytes : List ℕ) → Option ℕ
 whole_in bytes = number_in whole_digits most_whole bytes
 
 -- of digits that are places, as many of them as stand there: one is tenths, two are hundredths
-abbrev pub as_places : (size : ℕ) (digits : Typed) → Typed
-as_places size (Is n) = Is (n * 10 ^ (places - size))
-as_places size Malformed = Malformed
+abbrev pub as_places : (size : ℕ) (digits : Option ℕ) → Option ℕ
+as_places size (Some n) = Some (n * 10 ^ (places - size))
+as_places size None = None
 
-unfoldable pub places_in : (bytes : List ℕ) → Typed
+unfoldable pub places_in : (bytes : List ℕ) → Option ℕ
 places_in bytes = as_places (length bytes) (number_in places most_places bytes)
 
-abbrev pub joined : (whole part : Typed) → Typed
-joined (Is n) (Is p) = Is (n * thousand + p)
-joined (Is n) Malformed = Malformed
-joined Malformed part = Malformed
+abbrev pub joined : (whole part : Option ℕ) → Option ℕ
+joined (Some n) (Some p) = Some (n * thousand + p)
+joined (Some n) None = None
+joined None part = None
 
-abbrev pub by_point : (bytes : List ℕ) (place : Found) → Typed
-by_point bytes Nothing = joined (whole_in bytes) (Is 0)
-by_point bytes (At i) = joined (whole_in (take i bytes)) (places_in (drop (i + 1) bytes))
+abbrev pub by_point : (bytes : List ℕ) (place : Option ℕ) → Option ℕ
+by_point bytes None = joined (whole_in bytes) (Some 0)
+by_point bytes (Some i) = joined (whole_in (take i bytes)) (places_in (drop (i + 1) bytes))
 
 -- the thousandths
-unfoldable pub decimal_in : (bytes : List ℕ) → Typed
+unfoldable pub decimal_in : (bytes : List ℕ) → Option ℕ
 decimal_in bytes = by_point bytes (point_in bytes)

@@ -5,9 +5,7 @@ ghost use Rattle.numerals.specs.Typed.{most_whole};
 ghost use Rattle.numerals.specs.Inner.{AtMost, digits_from, number_of, with_places};
 
 use super::number::{POINT, ZERO_DIGIT};
-use super::typed::{
-    MOST_PLACES, MOST_WHOLE, PLACES, Typed, WHOLE_DIGITS, as_places, is_digit, join,
-};
+use super::typed::{MOST_PLACES, MOST_WHOLE, PLACES, WHOLE_DIGITS, as_places, is_digit, join};
 use little::read::byte_at;
 
 // Behind a number above this no further digit is taken: ten times it and a digit may be more than 64 bits hold.
@@ -20,11 +18,11 @@ pub(crate) struct Digits {
     pub(crate) end: usize,
 }
 
-// A number, and the place behind it; or none of the form that is asked for stands there.
-#[derive(Clone, Copy)]
-pub enum Ahead {
-    Number(u64, usize),
-    Nothing,
+// A number, and the place behind it.
+#[derive(Clone, Copy, Debug, PartialEq, Eq)]
+pub struct Ahead {
+    pub number: u64,
+    pub end: usize,
 }
 
 // The digits from `at` on, as far as they go.
@@ -32,8 +30,7 @@ fn digits_from(text: &[u8], at: usize) -> Digits
     ensures { result ≡ digits_from text.now at }
 {
     let mut value = 0;
-    let mut i = at;
-    while i < text.len() {
+    for i in at..text.len() {
         let byte = text[i];
         if !is_digit(byte) {
             return Digits { value, end: i };
@@ -42,36 +39,37 @@ fn digits_from(text: &[u8], at: usize) -> Digits
             return Digits { value, end: i };
         }
         value = 10 * value + (byte - ZERO_DIGIT) as u64;
-        i += 1;
     }
-    Digits { value, end: i }
+    Digits {
+        value,
+        end: at.max(text.len()),
+    }
 }
 
 // The number of so many digits, where these are 1 to `digits` and it is at most `most`.
-fn number_of(size: usize, value: u64, digits: usize, most: u64) -> Typed
+#[tactic(auto, unfolding(crate::specs::Inner::number_of))]
+fn number_of(size: usize, value: u64, digits: usize, most: u64) -> Option<u64>
     ensures { result ≡ number_of size value digits most }
 {
     if (size < 1) | (digits < size) {
-        return Typed::Malformed;
+        return None;
     }
     if most < value {
-        return Typed::Malformed;
+        return None;
     }
-    Typed::Is(value)
+    Some(value)
 }
 
-fn ending_at(end: usize, typed: Typed) -> Ahead
+fn ending_at(end: usize, typed: Option<u64>) -> Option<Ahead>
     ensures { result ≡ ending_at end typed }
 {
-    match typed {
-        Typed::Is(n) => Ahead::Number(n, end),
-        Typed::Malformed => Ahead::Nothing,
-    }
+    let number = typed?;
+    Some(Ahead { number, end })
 }
 
 // The number of the digits from `at` on, where these are 1 to `digits` and it is at most `most`, and where they end. Whatever follows them
 // is not looked at.
-pub fn number_from(text: &[u8], at: usize, digits: usize, most: u64) -> Ahead
+pub fn number_from(text: &[u8], at: usize, digits: usize, most: u64) -> Option<Ahead>
     ensures { result ≡ number_from digits most text.now at }
 {
     let front = digits_from(text, at);
@@ -82,7 +80,7 @@ pub fn number_from(text: &[u8], at: usize, digits: usize, most: u64) -> Ahead
 }
 
 // What stands before a point, and the digits from `at` on as its places.
-fn with_places(text: &[u8], at: usize, whole: Typed) -> Ahead
+fn with_places(text: &[u8], at: usize, whole: Option<u64>) -> Option<Ahead>
     requires { AtMost most_whole whole }
     ensures { result ≡ with_places text.now at whole }
 {
@@ -94,7 +92,7 @@ fn with_places(text: &[u8], at: usize, whole: Typed) -> Ahead
 
 // The thousandths of the decimal numeral from `at` on, and where it ends: its digits, and if a point follows them, that and the digits
 // behind it. Whatever follows is not looked at.
-pub fn decimal_from(text: &[u8], at: usize) -> Ahead
+pub fn decimal_from(text: &[u8], at: usize) -> Option<Ahead>
     ensures { result ≡ decimal_from text.now at }
 {
     let front = digits_from(text, at);
@@ -103,5 +101,5 @@ pub fn decimal_from(text: &[u8], at: usize) -> Ahead
     if byte_at(text, end) == POINT as usize {
         return with_places(text, end + 1, whole);
     }
-    ending_at(end, join(whole, Typed::Is(0)))
+    ending_at(end, join(whole, Some(0)))
 }

@@ -33,14 +33,15 @@ fn digits(n: u64, tail: &mut [u8]) -> usize
     requires { length tail.old ≡ most_digits }
     ensures { Ends (significant most_digits n) result tail.new }
 {
-    let mut i = MOST_DIGITS;
     let mut rest = n;
-    while (0 < i) & (0 < rest) {
-        i -= 1;
+    for i in (0..MOST_DIGITS).rev() {
+        if rest == 0 {
+            return i + 1;
+        }
         tail[i] = last_digit(rest);
         rest /= 10;
     }
-    i
+    0
 }
 
 // The numeral of a number, 0 as `0`, from the place `at` on, as far as the text goes; further digits are dropped, all of them where the

@@ -1,10 +1,11 @@
 -- How a text is cut, from its front: a byte that ends no field belongs to the first one; where the field ends, the text behind it has the
 -- other fields and records. Assumes nothing.
-use Prim.Native.Nat.{ℕ, suc, ◌+◌, ◌-◌, ◌≤◌, ◌<◌}
+use Prim.Native.Nat.{ℕ, suc, ◌+◌, ◌-◌, ◌≤◌, ◌<◌, max}
 use mathlib.Core.Path.{◌≡◌, refl, sym, ap, ◌∙◌}
 use mathlib.Core.Bool.{Bool, true, false, ◌&&◌, ◌||◌}
 use mathlib.Core.List.{List, [], ◌∷◌}
 use native.Mathlib.Nat.{add-zero}
+use Rattle.std.proofs.Math.Nat.{max-eq_left, max-eq_right}
 use native.Mathlib.Numerals.{add-one}
 use native.Mathlib.Omega.{arith}
 use lib.Dec.{leb, eqb}
@@ -147,6 +148,17 @@ module _ (text : List ℕ) (at : ℕ) where
   unfolding field_end
   field_start = refl
 
+  -- a loop over the places of the text, none of which ends the field, ends behind the text, or where it began
+  pub field_last : (i : ℕ) (q : Bool) → field_end text at ≡ i + length (pieces q (drop i text)).field → length text ≤ i
+      → (at ≤ length text → i ≤ length text) → max at (length text) ≡ field_end text at
+  field_last i q e past within =
+      let here = past_end text i q past in
+      either_way (leb at (length text))
+      (λ w. max-eq_right (leb-true at (length text) w) ∙ (let s : length text ≡ field_end text at = omega (arith, within (leb-true at (length text) w)) in s))
+      (λ w.
+      let gone : length text ≤ at = omega (arith, leb-false at (length text) w) in
+      max-eq_left gone ∙ (let s : at ≡ field_end text at = omega (arith, field_start, past_end text at false gone) in s))
+
   -- the bytes of the field
   pub field_bytes : part_of text at (field_end text at - at) ≡ (pieces false (drop at text)).field
   field_bytes =
@@ -157,22 +169,6 @@ module _ (text : List ℕ) (at : ℕ) where
       ≡ record { field = []; fields = (pieces false (drop at text)).fields; records = (pieces false (drop at text)).records }
   behind_it =
       rw (field_start, ← drop-drop (length (pieces false (drop at text)).field) at text) (cut false (drop at text)).rest
-
--- ---- what ends a field, case by case
-
-module _ (text : List ℕ) (at : ℕ) where
-  pub ends_quoted : false ≡ ends_field text at true
-  unfolding ends_field
-  ends_quoted = refl
-
-  pub ends_comma : byte_at text at ≡ comma → true ≡ ends_field text at false
-  unfolding ends_field
-  ends_comma e = rw (e)
-
-  pub ends_return : (byte_at text at ≡ comma → ⊥)
-      → (eqb (byte_at text at) carriage_return && eqb (byte_at text (at + 1)) line_feed) ≡ ends_field text at false
-  unfolding ends_field
-  ends_return n = rw (ne_eqb (byte_at text at) comma n)
 
 -- ---- what follows a field, case by case
 

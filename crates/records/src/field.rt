@@ -1,27 +1,27 @@
 // A field of a text.
 ghost use Rattle.std.specs.Prelude.{◌≡◌, ◌<◌, length};
-ghost use Rattle.records.specs.Records.{turned, is_quoted, content_of, field_end};
+ghost use Rattle.records.specs.Records.{turned, content_of, field_end};
 ghost use Rattle.records.specs.Follow.{behind, ends_field, field_ends};
 
-use little::part::part;
 use little::read::byte_at;
 
-const COMMA: usize = 44;
+const COMMA: usize = b',' as usize;
 
-const QUOTE: usize = 34;
+const QUOTE: usize = b'"' as usize;
 
-const CARRIAGE_RETURN: usize = 13;
+const CARRIAGE_RETURN: usize = b'\r' as usize;
 
-const LINE_FEED: usize = 10;
+const LINE_FEED: usize = b'\n' as usize;
 
 // Where the next field of the same record begins; or, behind a record's last field, where the next record does.
-#[derive(Clone, Copy)]
+#[derive(Clone, Copy, Debug, PartialEq, Eq)]
 pub enum Behind {
     Field(usize),
     Record(usize),
 }
 
 // A comma, or a carriage return before a line feed, each outside quotes.
+#[tactic(auto, unfolding(crate::specs::Follow::ends_field))]
 fn ends_field(text: &[u8], at: usize, quoted: bool) -> bool
     requires { at < length text.now }
     ensures { result ≡ ends_field text.now at quoted }
@@ -48,18 +48,17 @@ pub fn field_end(text: &[u8], at: usize) -> usize
     ensures { result ≡ field_end text.now at }
 {
     let mut quoted = false;
-    let mut i = at;
-    while i < text.len() {
+    for i in at..text.len() {
         if ends_field(text, i, quoted) {
             return i;
         }
         quoted = turned(quoted, byte_at(text, i));
-        i += 1;
     }
-    i
+    at.max(text.len())
 }
 
 // Whether a field that is not inside quotes there ends there, if not before: at a comma, at a line end or with the text.
+#[tactic(auto, unfolding(crate::specs::Follow::field_ends))]
 pub fn field_ends(text: &[u8], at: usize) -> bool
     ensures { result ≡ field_ends text.now at }
 {
@@ -71,6 +70,7 @@ pub fn field_ends(text: &[u8], at: usize) -> bool
 
 // What follows a field that ends there: after a comma a field, after a line end a record. Where the text ends the next record would begin
 // there, and there is none.
+#[tactic(auto, unfolding(crate::specs::Follow::behind))]
 pub fn what_follows(text: &[u8], end: usize) -> Behind
     ensures { result ≡ behind text.now end }
 {
@@ -83,22 +83,12 @@ pub fn what_follows(text: &[u8], end: usize) -> Behind
     Behind::Record(end + 2)
 }
 
-fn is_quoted(field: &[u8]) -> bool
-    ensures { result ≡ is_quoted field.now }
-{
-    if field.len() < 2 {
-        return false;
-    }
-    (byte_at(field, 0) == QUOTE) & (byte_at(field, field.len() - 1) == QUOTE)
-}
-
 // What a field holds: what stands between its double quotes, or all of it.
 pub fn content(field: &[u8]) -> &[u8]
     ensures { result.now ≡ content_of field.now }
 {
-    if is_quoted(field) {
-        part(field, 1, field.len() - 2)
-    } else {
-        field
+    match field {
+        [b'"', inner @ .., b'"'] => inner,
+        _ => field,
     }
 }

@@ -3,7 +3,6 @@ use Prim.Native.Nat.{ℕ, zero, suc, ◌+◌, ◌*◌, ◌≤◌, ◌<◌, min}
 use mathlib.Core.Path.{◌≡◌, refl, sym, ◌∙◌}
 use mathlib.Core.Bool.{true}
 use mathlib.Core.List.{List}
-use mathlib.Core.Logic.{◌≢◌}
 use native.Mathlib.Nat.{mul-suc, mul-le-mul_left}
 use native.Mathlib.Numerals.{add-one}
 use native.Mathlib.Omega.{arith}
@@ -14,8 +13,9 @@ use Rattle.little.specs.Read.{AreBytes}
 use Rattle.settle.specs.Shown.{at as cell}
 use Rattle.headers.specs.Sheet.{line_count}
 use Rattle.answers.specs.Bundle.{bundle_number}
-use Rattle.answers.specs.declared.bundle.BundleOutcome.{BundleOutcome}
-use Rattle.answers.specs.declared.bundle.BundleOutcome.TheVariants.{Taken, BundleMalformed, ResultTooShort}
+use Rattle.std.specs.Prelude.{Ok, Err}
+use Rattle.answers.specs.declared.bundle.BundleFault.{BundleFault}
+use Rattle.answers.specs.declared.bundle.BundleFault.TheVariants.{BundleMalformed, ResultTooShort}
 use Rattle.bundle.specs.Bundle.{most_sheets, sheet_count, cells_per_sheet, sheet_of}
 use Rattle.bundle.specs.Whole.{roomy, bundle_outcome}
 use Rattle.bundle.proofs.LawBundle.{exact_room_lem, shown_room_lem, run_inside}
@@ -28,26 +28,25 @@ use Rattle.desk.proofs.LawTable.{lines_few}
 use Rattle.desk.proofs.LawWorks.{run_size, outcome_cell}
 use Rattle.report.specs.Report.{refusal_text, most_cells, report_of}
 use Rattle.report.specs.Bundle.{sheet_report, sheets_text, room_lent, bundle_report_for, bundle_report_of, most_sheet_text, most_bundle_text}
-use Rattle.report.specs.Inner.{most_refusal, answer_text, sheet_text, sheet_texts, SheetsTellable}
-use Rattle.numerals.specs.Laid.{Puts}
-use Rattle.numerals.proofs.LawPuts.{nothing, then, more}
+use Rattle.report.specs.Inner.{most_refusal, answer_text, sheet_text, sheet_texts, SheetsTellable, Adds}
+use Rattle.report.specs.declared.writer.Writer.{Writer}
+use Rattle.report.proofs.LawAdds.{nothing, then, more}
 use Rattle.report.proofs.LawTold.{told_few, told_is}
 
 -- ---- one sheet after another
 
-module _ (bundle : List ℕ) (after : Results) where
-  pub sheets_start : (text : List ℕ) → Puts (sheet_texts bundle after 0) (most_sheet_text * 0) 0 text 0 text
+module _ (bundle : List ℕ) (after : Results) (w : Writer) where
+  pub sheets_start : Adds (sheet_texts bundle after 0) (most_sheet_text * 0) w w
   unfolding sheet_texts
-  sheets_start text = nothing 0 text
+  sheets_start = nothing w
 
-  pub sheets_step : (i : ℕ) {next r : ℕ} {text between text' : List ℕ} → Puts (sheet_texts bundle after i) (most_sheet_text * i) 0 text next between
-      → Puts (sheet_text bundle after i) most_sheet_text next between r text'
-      → Puts (sheet_texts bundle after (i + 1)) (most_sheet_text * (i + 1)) 0 text r text'
+  pub sheets_step : (i : ℕ) {v u : Writer} → Adds (sheet_texts bundle after i) (most_sheet_text * i) w v
+      → Adds (sheet_text bundle after i) most_sheet_text v u → Adds (sheet_texts bundle after (i + 1)) (most_sheet_text * (i + 1)) w u
   unfolding sheet_texts
   sheets_step i p q = rw (add-one i, mul-suc) (then p q)
 
-  pub sheets_done : (i n : ℕ) {r : ℕ} {text text' : List ℕ} → i ≡ n → n ≤ most_sheets → Puts (sheet_texts bundle after i) (most_sheet_text * i) 0 text r text'
-      → Puts (sheet_texts bundle after n) most_bundle_text 0 text r text'
+  pub sheets_done : (i n : ℕ) {v : Writer} → i ≡ n → n ≤ most_sheets → Adds (sheet_texts bundle after i) (most_sheet_text * i) w v
+      → Adds (sheet_texts bundle after n) most_bundle_text w v
   sheets_done i n e few p = more (rw e at p) (omega (arith, mul-le-mul_left most_sheet_text few))
 
 -- ---- what the desk left
@@ -116,16 +115,13 @@ as_printed_alone from bundle i fits = rw (same_answer (lent from (sheet_of bundl
 
 -- ---- the whole
 
-pub whole_taken : (from : Sources) (bundle : List ℕ) {r : ℕ} {text text' : List ℕ}
-    → bundle_outcome bundle room_lent room_lent most_sheets ≡ Taken
-    → Puts (sheets_text from bundle (sheet_count bundle)) most_bundle_text 0 text r text' → Puts (bundle_report_of from bundle) most_bundle_text 0 text r text'
+pub whole_taken : (from : Sources) (bundle : List ℕ) {w v : Writer} → bundle_outcome bundle room_lent room_lent most_sheets ≡ Ok tt
+    → Adds (sheets_text from bundle (sheet_count bundle)) most_bundle_text w v → Adds (bundle_report_of from bundle) most_bundle_text w v
 unfolding bundle_report_of bundle_report_for
 whole_taken from bundle e p = rw e p
 
-pub whole_refused : (from : Sources) (bundle : List ℕ) (o : BundleOutcome) {r : ℕ} {text text' : List ℕ}
-    → o ≡ bundle_outcome bundle room_lent room_lent most_sheets
-    → o ≢ Taken → Puts (refusal_text (bundle_number o) 0) most_refusal 0 text r text' → Puts (bundle_report_of from bundle) most_bundle_text 0 text r text'
+pub whole_refused : (from : Sources) (bundle : List ℕ) (fault : BundleFault) {w v : Writer} → Err fault ≡ bundle_outcome bundle room_lent room_lent most_sheets
+    → Adds (refusal_text (bundle_number (Err fault)) 0) most_refusal w v → Adds (bundle_report_of from bundle) most_bundle_text w v
 unfolding bundle_report_of bundle_report_for
-whole_refused from bundle Taken e refused p = absurd (refused refl)
-whole_refused from bundle BundleMalformed e refused p = rw (← e) (more p (omega arith))
-whole_refused from bundle ResultTooShort e refused p = rw (← e) (more p (omega arith))
+whole_refused from bundle BundleMalformed e p = rw (← e) (more p (omega arith))
+whole_refused from bundle ResultTooShort e p = rw (← e) (more p (omega arith))

@@ -1,3 +1,4 @@
+pub mod LawAdds
 pub mod LawPut
 pub mod LawTold
 pub mod LawSheets

@@ -1,14 +1,14 @@
 -- "The program": a bundle's report. For each sheet a line `sheet I`, and then what is printed for that sheet alone with its run; a refused
 -- bundle is only `refused N line 0`.
-use Rattle.std.specs.Prelude.{ℕ, zero, suc, ◌+◌, ◌*◌, List, [], ◌∷◌, ◌++◌, length}
+use Rattle.std.specs.Prelude.{⊤, Result, Ok, Err, ℕ, zero, suc, ◌+◌, ◌*◌, List, [], ◌∷◌, ◌++◌, length}
 use Rattle.answers.specs.Bundle.{bundle_number}
-use Rattle.answers.specs.declared.bundle.BundleOutcome.{BundleOutcome}
-use Rattle.answers.specs.declared.bundle.BundleOutcome.TheVariants.{Taken, BundleMalformed, ResultTooShort}
+use Rattle.answers.specs.declared.bundle.BundleFault.{BundleFault}
+use Rattle.answers.specs.declared.bundle.BundleFault.TheVariants.{BundleMalformed, ResultTooShort}
 use Rattle.bundle.specs.Bundle.{most_sheets, sheet_count, cells_per_sheet, sheet_of}
 use Rattle.bundle.specs.Whole.{bundle_outcome}
 use Rattle.desk.specs.Lent.{Sources, lent}
 use Rattle.desk.specs.Table.{answer_of}
-use Rattle.report.specs.declared.Written.{Written}
+use Rattle.report.specs.declared.NoRoom.{NoRoom}
 use Rattle.report.specs.Report.{line_end, number_text, refusal_text, most_cells, report_for, most_number, most_text, Wrote}
 
 -- `sheet`
@@ -34,10 +34,10 @@ abbrev pub room_lent : ℕ
 room_lent = most_sheets * most_cells
 
 -- the report where the whole is answered so
-unfoldable pub bundle_report_for : (answer : BundleOutcome) (from : Sources) (bundle : List ℕ) → List ℕ
-bundle_report_for Taken from bundle = sheets_text from bundle (sheet_count bundle)
-bundle_report_for BundleMalformed from bundle = refusal_text (bundle_number BundleMalformed) 0
-bundle_report_for ResultTooShort from bundle = refusal_text (bundle_number ResultTooShort) 0
+unfoldable pub bundle_report_for : (answer : Result ⊤ BundleFault) (from : Sources) (bundle : List ℕ) → List ℕ
+bundle_report_for (Ok _) from bundle = sheets_text from bundle (sheet_count bundle)
+bundle_report_for (Err BundleMalformed) from bundle = refusal_text (bundle_number (Err BundleMalformed)) 0
+bundle_report_for (Err ResultTooShort) from bundle = refusal_text (bundle_number (Err ResultTooShort)) 0
 
 unfoldable pub bundle_report_of : (from : Sources) (bundle : List ℕ) → List ℕ
 bundle_report_of from bundle = bundle_report_for (bundle_outcome bundle room_lent room_lent most_sheets) from bundle
@@ -53,5 +53,5 @@ abbrev pub most_bundle_text : ℕ
 most_bundle_text = most_sheets * most_sheet_text
 
 -- the whole promise for the sources, a bundle and a lent text
-abbrev pub ReportedBundle : (from : Sources) (bundle text : List ℕ) (r : Written) (text' : List ℕ) → Type 0
+abbrev pub ReportedBundle : (from : Sources) (bundle text : List ℕ) (r : Result ℕ NoRoom) (text' : List ℕ) → Type 0
 ReportedBundle from bundle text r text' = Wrote (bundle_report_of from bundle) most_bundle_text text r text'

@@ -1,5 +1,5 @@
 -- What private functions ask and answer, beside what a promise says. Nothing here is needed to read a promise.
-use Rattle.std.specs.Prelude.{ℕ, zero, suc, ◌+◌, ◌/◌, ◌%◌, ◌≤◌, ◌<◌, ◌≡◌, true, cond, List, [], ◌++◌, eqb, length, take, replicate}
+use Rattle.std.specs.Prelude.{Result, ℕ, zero, suc, ◌+◌, ◌/◌, ◌%◌, ◌≤◌, ◌<◌, ◌≡◌, true, cond, List, [], ◌++◌, eqb, length, take, replicate}
 use Rattle.little.specs.Read.{u16_range}
 use Rattle.settle.specs.Shown.{at as cell}
 use Rattle.answers.specs.Answer.{number_unit}
@@ -8,10 +8,12 @@ use Rattle.bundle.specs.Whole.{roomy}
 use Rattle.headers.specs.Sheet.{line_count, most_lines}
 use Rattle.headers.specs.Unit.{unit_of_sheet}
 use Rattle.desk.specs.Cells.{table_size}
+use Rattle.desk.specs.Demands.{cell_at}
 use Rattle.desk.specs.Works.{Results, run_of}
-use Rattle.numerals.specs.Laid.{reach}
-use Rattle.report.specs.declared.Written.{Written}
-use Rattle.report.specs.Report.{exact_word, refused_word, line_word, line_end, most_number, most_text}
+use Rattle.numerals.specs.Laid.{reach, Puts}
+use Rattle.report.specs.declared.NoRoom.{NoRoom}
+use Rattle.report.specs.declared.writer.Writer.{Writer}
+use Rattle.report.specs.Report.{number_text, exact_word, refused_word, line_word, line_end, most_number, most_text}
 use Rattle.report.specs.Report.{figures_text, refusal_text, written_of}
 use Rattle.report.specs.Bundle.{sheet_line, most_sheet_text}
 
@@ -27,11 +29,21 @@ name_size = length exact_word
 abbrev pub most_refusal : ℕ
 most_refusal = length refused_word + most_number + length line_word + most_number + length line_end
 
+-- these bytes are put, at most so many; it is the same text that is written
+pub record Adds (bytes : List ℕ) (most : ℕ) (before after : Writer) : Type 0 where
+  pub same : after.text.ghost_name ≡ before.text.ghost_name
+  pub puts : Puts bytes most before.at before.text.now after.at after.text.now
+
 -- r says whether a text that ends there has room; where it has none, every byte is cleared
-pub record Finished (end : ℕ) (text : List ℕ) (r : Written) (text' : List ℕ) : Type 0 where
+pub record Finished (end : ℕ) (text : List ℕ) (r : Result ℕ NoRoom) (text' : List ℕ) : Type 0 where
   pub answer : r ≡ written_of end (length text)
   pub all : end ≤ length text → text' ≡ text
   pub none : length text < end → text' ≡ replicate (length text) 0
+
+-- the first n cells of row i
+unfoldable pub cells_text : (cells : List ℕ) (i n : ℕ) → List ℕ
+cells_text cells i zero = []
+cells_text cells i (suc n) = cells_text cells i n ++ number_text (cell_at cells i n)
 
 -- the cells of a result that are the sheet's table
 abbrev pub table_in : (sheet cells : List ℕ) → List ℕ

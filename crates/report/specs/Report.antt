@@ -1,6 +1,6 @@
 -- "The program prints": the report of a sheet, byte for byte, in ASCII. The exact rows come first, then `unit` with W, then the shown
 -- rows. After `exact` or `shown`: the line's number or `total`, then G, R, U, D, F. A refusal is only `refused N line L`.
-use Rattle.std.specs.Prelude.{ℕ, zero, suc, ◌+◌, ◌*◌, ◌≤◌, ◌≡◌, cond, List, [], ◌∷◌, ◌++◌, leb, length, drop, replicate}
+use Rattle.std.specs.Prelude.{⊤, Result, Ok, Err, ℕ, zero, suc, ◌+◌, ◌*◌, ◌≤◌, ◌≡◌, cond, List, [], ◌∷◌, ◌++◌, leb, length, drop, replicate}
 use Rattle.numerals.specs.Numeral.{most_digits, numeral}
 use Rattle.settle.specs.Step.{shown_table}
 use Rattle.desk.specs.Lent.{Lent}
@@ -11,10 +11,9 @@ use Rattle.headers.specs.Unit.{unit_of_sheet}
 use Rattle.answers.specs.Answer.{file_rule, line_rule}
 use Rattle.desk.specs.Table.{table_of, answer_of}
 use Rattle.desk.specs.Demands.{cell_at, table_grid}
-use Rattle.answers.specs.declared.answer.Outcome.{Outcome}
-use Rattle.answers.specs.declared.answer.Outcome.TheVariants.{Accepted, RefusedFile, RefusedLine}
-use Rattle.report.specs.declared.Written.{Written}
-use Rattle.report.specs.declared.Written.TheVariants.{Bytes, Short}
+use Rattle.answers.specs.declared.answer.Refusal.{Refusal}
+use Rattle.answers.specs.declared.answer.Refusal.TheVariants.{File, Line}
+use Rattle.report.specs.declared.NoRoom.{NoRoom}
 
 -- ---- words
 
@@ -102,10 +101,10 @@ abbrev pub shown_of : (f : Lent) → List ℕ
 shown_of f = shown_table (table_grid (unit_of_sheet f.sheet) (line_count f.sheet)) (exact_of f)
 
 -- the report where the desk answers so
-unfoldable pub report_for : (answer : Outcome) (f : Lent) → List ℕ
-report_for Accepted f = figures_text (line_count f.sheet) (unit_of_sheet f.sheet) (exact_of f) (shown_of f)
-report_for (RefusedFile fault) f = refusal_text (file_rule fault) 0
-report_for (RefusedLine fault line) f = refusal_text (line_rule fault) line
+unfoldable pub report_for : (answer : Result ⊤ Refusal) (f : Lent) → List ℕ
+report_for (Ok _) f = figures_text (line_count f.sheet) (unit_of_sheet f.sheet) (exact_of f) (shown_of f)
+report_for (Err (File fault)) f = refusal_text (file_rule fault) 0
+report_for (Err (Line fault line)) f = refusal_text (line_rule fault) line
 
 -- the report, with room in both results for every sheet
 unfoldable pub report_of : (f : Lent) → List ℕ
@@ -133,21 +132,25 @@ most_unit = length unit_word + most_number + length line_end
 abbrev pub most_text : ℕ
 most_text = 2 * (most_row * (most_lines + 1)) + most_unit
 
+-- the one answer of a text that is too short
+abbrev pub no_room : NoRoom
+no_room = record {}
+
 -- all bytes of the report, or none
-unfoldable pub written_of : (size room : ℕ) → Written
-written_of size room = cond (leb size room) (Bytes size) Short
+unfoldable pub written_of : (size room : ℕ) → Result ℕ NoRoom
+written_of size room = cond (leb size room) (Ok size) (Err no_room)
 
 -- the report, and past it what was there; or zeros
-unfoldable pub text_after : (r : Written) (report text : List ℕ) → List ℕ
-text_after (Bytes n) report text = report ++ drop n text
-text_after Short report text = replicate (length text) 0
+unfoldable pub text_after : (r : Result ℕ NoRoom) (report text : List ℕ) → List ℕ
+text_after (Ok n) report text = report ++ drop n text
+text_after (Err none) report text = replicate (length text) 0
 
 -- a report written at the start of a lent text: it fits the bound, r says whether it has room, and what the text holds
-pub record Wrote (report : List ℕ) (most : ℕ) (text : List ℕ) (r : Written) (text' : List ℕ) : Type 0 where
+pub record Wrote (report : List ℕ) (most : ℕ) (text : List ℕ) (r : Result ℕ NoRoom) (text' : List ℕ) : Type 0 where
   pub fits : length report ≤ most
   pub answer : r ≡ written_of (length report) (length text)
   pub holds : text' ≡ text_after r report text
 
 -- the whole promise for the sources, a sheet and a lent text
-abbrev pub Reported : (f : Lent) (text : List ℕ) (r : Written) (text' : List ℕ) → Type 0
+abbrev pub Reported : (f : Lent) (text : List ℕ) (r : Result ℕ NoRoom) (text' : List ℕ) → Type 0
 Reported f text r text' = Wrote (report_of f) most_text text r text'

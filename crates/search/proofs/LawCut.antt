@@ -7,7 +7,7 @@ use native.Mathlib.Nat.{eq-or-lt_of_le, le_of_suc-le-suc}
 use native.Mathlib.Omega.{arith}
 use Rattle.search.specs.InnerCut.{Cut, Falls}
 use Rattle.search.specs.First.{first}
-use Rattle.search.specs.declared.found.Found.TheVariants.{At, Nothing}
+use Rattle.std.specs.Prelude.{Some, None}
 use Rattle.search.proofs.LawTest.{either_way}
 use Rattle.search.proofs.LawFirst.{first_start, first_here, first_rest}
 
@@ -18,9 +18,6 @@ rising R trans n next i zero l m = absurd (omega arith)
 rising R trans n next i (suc j) l m =
     ⊎_elim (λ (q : i ≡ j). rw q (next j m)) (λ (lt : i < j). trans i j (suc j) (rising R trans n next i j lt (omega arith)) (next j m))
     (eq-or-lt_of_le (le_of_suc-le-suc l))
-
-pub cut_start : (n : ℕ) (p : ℕ → Bool) → Cut n p 0 n
-cut_start n p = record { order = omega arith; within = omega arith; below = λ i l. absurd (omega arith); above = λ i l m. absurd (omega arith) }
 
 -- the half above m, and the half below
 module _ {n : ℕ} {p : ℕ → Bool} (falls : Falls n p) {low high : ℕ} (C : Cut n p low high) (m : ℕ) (l : low ≤ m) (h : m < high) where
@@ -44,20 +41,21 @@ module _ {n : ℕ} {p : ℕ → Bool} (falls : Falls n p) {low high : ℕ} (C : 
 pub cut_met : {n : ℕ} {p : ℕ → Bool} {low high : ℕ} → Cut n p low high → high ≤ low → Cut n p low low
 cut_met {n} {p} {low} {high} C l = let e : high ≡ low = omega (arith, C.order) in rw e at C
 
--- what is looked for is not where the test holds: it is found where the test stops holding, or nowhere
+-- what is looked for is not where the test holds
+pub nothing_below : {n : ℕ} {p : ℕ → Bool} {low high : ℕ} → Cut n p low high → (q : ℕ → Bool) → ((i : ℕ) → p i ≡ true → q i ≡ false) → first low q ≡ None
+nothing_below {n} {p} {low} {high} C q apart = first_rest q 0 low (first_start q) (omega arith) (λ i l m. apart i (C.below i m))
+
+-- so it is found where the test stops holding, or nowhere
 module _ {n : ℕ} {p : ℕ → Bool} {r : ℕ} (C : Cut n p r r) (q : ℕ → Bool) (apart : (i : ℕ) → p i ≡ true → q i ≡ false) where
-  nothing_below : first r q ≡ Nothing
-  nothing_below = first_rest q 0 r (first_start q) (omega arith) (λ i l m. apart i (C.below i m))
+  pub cut_here : r < n → q r ≡ true → Some r ≡ first n q
+  cut_here l e = first_here q r n (nothing_below C q apart) e l
 
-  pub cut_here : r < n → q r ≡ true → At r ≡ first n q
-  cut_here l e = first_here q r n nothing_below e l
-
-  pub cut_other : q r ≡ false → ((i : ℕ) → r < i → i < n → q i ≡ false) → Nothing ≡ first n q
-  cut_other e after = sym (first_rest q r n nothing_below C.within (λ i l m. at i (eq-or-lt_of_le l) m))
+  pub cut_other : q r ≡ false → ((i : ℕ) → r < i → i < n → q i ≡ false) → None ≡ first n q
+  cut_other e after = sym (first_rest q r n (nothing_below C q apart) C.within (λ i l m. at i (eq-or-lt_of_le l) m))
     where
       at : (i : ℕ) → (r ≡ i) ⊎ (r < i) → i < n → q i ≡ false
       at i (inl s) m = rw (← s) e
       at i (inr lt) m = after i lt m
 
-  pub cut_none : n ≤ r → Nothing ≡ first n q
-  cut_none l = let e : r ≡ n = omega (arith, C.within) in sym (rw e at nothing_below)
+  pub cut_none : n ≤ r → None ≡ first n q
+  cut_none l = let e : r ≡ n = omega (arith, C.within) in sym (rw e at (nothing_below C q apart))

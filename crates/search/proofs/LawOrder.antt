@@ -7,38 +7,35 @@ use native.Mathlib.Omega.{arith}
 use borrow.Author.Tests.{ltb-true, ltb-false, lt-ltb, le-ltb, eq-eqb, ne_eqb}
 use lib.Dec.{ltb, eqb}
 use lib.ListN.{length}
-use Rattle.search.specs.Order.{order_of}
-use Rattle.search.specs.InnerOrder.{and_then, list_order, is_before, is_same}
-use Rattle.search.specs.declared.order.Order.{Order}
-use Rattle.search.specs.declared.order.Order.TheVariants.{Before, Same, After}
+use Rattle.std.specs.declared.cmp.Ordering.{Ordering}
+use Rattle.std.specs.declared.cmp.Ordering.TheVariants.{Less, Equal, Greater}
+use Rattle.std.specs.Ordering.{MatchOrdering, nat_cmp, ordering_then, is_lt, is_eq}
+use Rattle.search.specs.InnerOrder.{list_order}
 use Rattle.search.proofs.LawTest.{either_way}
 
 module _ (x y : ℕ) where
-  pub number_before : x < y → order_of x y ≡ Before
-  unfolding order_of
+  pub number_before : x < y → nat_cmp x y ≡ Less
   number_before l = rw (lt-ltb x y l)
 
-  pub number_same : x ≡ y → order_of x y ≡ Same
-  unfolding order_of
+  pub number_same : x ≡ y → nat_cmp x y ≡ Equal
   number_same e = let h : y ≤ x = omega arith in rw (le-ltb x y h, eq-eqb x y e)
 
-  pub number_after : y < x → order_of x y ≡ After
-  unfolding order_of
+  pub number_after : y < x → nat_cmp x y ≡ Greater
   number_after l = let h : y ≤ x = omega arith in rw (le-ltb x y h, ne_eqb x y (λ e. omega arith))
 
   -- a last number decides by itself
-  pub last_decides : order_of x y ≡ list_order (x ∷ []) (y ∷ [])
+  pub last_decides : nat_cmp x y ≡ list_order (x ∷ []) (y ∷ [])
   unfolding list_order
-  last_decides = by_itself (order_of x y)
+  last_decides = by_itself (nat_cmp x y)
     where
-      by_itself : (o : Order) → o ≡ and_then o Same
-      by_itself Before = refl
-      by_itself Same = refl
-      by_itself After = refl
+      by_itself : (o : Ordering) → o ≡ ordering_then o Equal
+      by_itself Less = refl
+      by_itself Equal = refl
+      by_itself Greater = refl
 
   module _ (xs ys : List ℕ) where
     -- the first numbers decide where they differ
-    pub first_differ : (x ≡ y → ⊥) → order_of x y ≡ list_order (x ∷ xs) (y ∷ ys)
+    pub first_differ : (x ≡ y → ⊥) → nat_cmp x y ≡ list_order (x ∷ xs) (y ∷ ys)
     unfolding list_order
     first_differ n =
         either_way (ltb x y)
@@ -50,12 +47,12 @@ module _ (x y : ℕ) where
     unfolding list_order
     first_same e = rw (number_same e)
 
-    pub before_first : is_before (list_order (x ∷ xs) (y ∷ ys)) ≡ (ltb x y || eqb x y && is_before (list_order xs ys))
-    unfolding list_order order_of
+    pub before_first : is_lt (list_order (x ∷ xs) (y ∷ ys)) ≡ (ltb x y || eqb x y && is_lt (list_order xs ys))
+    unfolding list_order
     before_first = either_way (ltb x y) (λ l. rw l) (λ l. either_way (eqb x y) (λ e. rw (l, e)) (λ e. rw (l, e)))
 
-    pub same_first : is_same (list_order (x ∷ xs) (y ∷ ys)) ≡ (eqb x y && is_same (list_order xs ys))
-    unfolding list_order order_of
+    pub same_first : is_eq (list_order (x ∷ xs) (y ∷ ys)) ≡ (eqb x y && is_eq (list_order xs ys))
+    unfolding list_order
     same_first =
         either_way (ltb x y)
         (λ l. let n = ltb-true x y l in rw (l, ne_eqb x y (λ e. omega arith)))
@@ -63,16 +60,22 @@ module _ (x y : ℕ) where
 
 -- ---- the order of two lists, part by part
 
-then_then : (o p q : Order) → and_then o (and_then p q) ≡ and_then (and_then o p) q
-then_then Before p q = refl
-then_then Same p q = refl
-then_then After p q = refl
+then_then : (o p q : Ordering) → ordering_then o (ordering_then p q) ≡ ordering_then (ordering_then o p) q
+then_then Less p q = refl
+then_then Equal p q = refl
+then_then Greater p q = refl
 
 pub order_joined : (xs ys us vs : List ℕ) → length xs ≡ length us
-    → list_order (xs ++ ys) (us ++ vs) ≡ and_then (list_order xs us) (list_order ys vs)
+    → list_order (xs ++ ys) (us ++ vs) ≡ ordering_then (list_order xs us) (list_order ys vs)
 unfolding list_order
 order_joined [] ys [] vs e = refl
 order_joined [] ys (u ∷ us) vs e = absurd (omega arith)
 order_joined (x ∷ xs) ys [] vs e = absurd (omega arith)
 order_joined (x ∷ xs) ys (u ∷ us) vs e =
-    ap (and_then (order_of x u)) (order_joined xs ys us vs (omega arith)) ∙ then_then (order_of x u) (list_order xs us) (list_order ys vs)
+    ap (ordering_then (nat_cmp x u)) (order_joined xs ys us vs (omega arith)) ∙ then_then (nat_cmp x u) (list_order xs us) (list_order ys vs)
+
+-- given what a call `s = r.then_with(..)` says of itself, and what the closure answers
+pub then_told : (r s o : Ordering) (P : Type 0) → MatchOrdering r (s ≡ Less) P (s ≡ Greater) → (P → s ≡ o) → s ≡ ordering_then r o
+then_told Less s o P told other = told
+then_told Equal s o P told other = other told
+then_told Greater s o P told other = told

@@ -1,13 +1,19 @@
 -- What tests of many things say, and how a loop makes them.
-use Prim.Native.Nat.{ℕ, zero, suc, ◌+◌, ◌≤◌, ◌<◌}
+use Prim.Native.Nat.{ℕ, zero, suc, ◌+◌, ◌<◌}
 use mathlib.Core.Bool.{Bool, true, false, ◌&&◌, ◌||◌}
-use mathlib.Core.Path.{◌≡◌, refl, ap, ◌∙◌}
+use mathlib.Core.Path.{◌≡◌, refl, ◌∙◌}
 use mathlib.Core.List.{List, [], ◌∷◌}
 use mathlib.Core.Logic.{⊎_elim}
-use native.Mathlib.Numerals.{add-one}
-use native.Mathlib.Nat.{le_antisymm, not-suc-le-zero, le_of_suc-le-suc, eq-or-lt_of_le}
+use native.Mathlib.Nat.{not-suc-le-zero, le_of_suc-le-suc, eq-or-lt_of_le}
 use native.Mathlib.Omega.{arith}
 use lib.ListN.{get_or}
+use denote.Param.Members.{Mut}
+use Rattle.std.specs.Fn.{Called}
+use Rattle.std.specs.Iterator.{ChecksAll}
+use Rattle.std.specs.List.{list_all, range_with_len}
+use Rattle.std.proofs.lemmas.Iterator.{YieldsList}
+use Rattle.std.specs.Prelude.{Option}
+use Rattle.std.proofs.lemmas.Iterator.Search.{all_from_yields_List}
 use Rattle.search.specs.Test.{all, every, every_from}
 
 -- by cases on a test
@@ -27,18 +33,6 @@ pub and_right : (a b : Bool) → (a && b) ≡ true → b ≡ true
 and_right true b h = h
 and_right false b h = cc
 
--- a loop `ok = ok & test(i)`, i from 0 up to n, with ok true before it and the invariant `(i ≤ n) × (ok ≡ all i p)`
-pub all_start : (p : ℕ → Bool) → true ≡ all 0 p
-unfolding all
-all_start p = refl
-
-pub all_step : (p : ℕ → Bool) (i : ℕ) {ok r : Bool} → ok ≡ all i p → r ≡ p i → (ok && r) ≡ all (i + 1) p
-unfolding all
-all_step p i h e = rw (add-one, h, e)
-
-pub all_done : (p : ℕ → Bool) {i n : ℕ} {ok : Bool} → (i ≤ n) × (ok ≡ all i p) → n ≤ i → ok ≡ all n p
-all_done p {i} {n} h l = h.1 ∙ ap (λ (k : ℕ). all k p) (le_antisymm h.0 l)
-
 -- what `all` says of a number below n
 pub all_at : (p : ℕ → Bool) (n i : ℕ) → all n p ≡ true → i < n → p i ≡ true
 unfolding all
@@ -52,6 +46,32 @@ pub all_of : (p : ℕ → Bool) (n : ℕ) → ((i : ℕ) → i < n → p i ≡ t
 unfolding all
 all_of p zero f = refl
 all_of p (suc n) f = rw (all_of p n (λ i l. f i (omega arith)), f n (omega arith))
+
+-- what `(0..n).all(..)` answers is the test at every number below n
+one_more : (p : ℕ → Bool) (a n : ℕ) → list_all p (range_with_len a (suc n)) ≡ (list_all p (range_with_len a n) && p (a + n))
+one_more p a zero = let e : a + 0 ≡ a = omega arith in rw e (alone (p a))
+  where
+    alone : (t : Bool) → (t && true) ≡ t
+    alone true = refl
+    alone false = refl
+one_more p a (suc n) =
+    let e : a + 1 + n ≡ a + suc n = omega arith in
+    rw (one_more p (a + 1) n, e) (grouped (p a) (list_all p (range_with_len (a + 1) n)) (p (a + suc n)))
+  where
+    grouped : (s t u : Bool) → (s && (t && u)) ≡ ((s && t) && u)
+    grouped true t u = refl
+    grouped false t u = refl
+
+all_counted : (p : ℕ → Bool) (n : ℕ) → list_all p (range_with_len 0 n) ≡ all n p
+unfolding all
+all_counted p zero = refl
+all_counted p (suc n) = let e : 0 + n ≡ n = omega arith in one_more p 0 n ∙ rw (all_counted p n, e) refl
+
+-- given what that call says of itself under `ran`, that it goes over a range, and that f answers the test
+pub all_of_range : {S F : Type 0} {steps : S → Option ℕ → S → Type 0} {g : Mut F (ℕ × Unit {0}) Bool} {s : S}
+    (p : ℕ → Bool) (n : ℕ) (u : S) (f : F) (r : Bool) → ChecksAll steps g s f r u → YieldsList steps (λ x. x) s (range_with_len 0 n)
+    → ((x : ℕ) (b : Bool) (q : F) → Called g f (x, tt) b q → (q ≡ f) × (b ≡ p x)) → r ≡ all n p
+all_of_range p n u f r ran range told = all_from_yields_List p u f r ran range told ∙ all_counted p n
 
 -- what `every` says of the entry at k
 from_first : (a : Bool) (l : List Bool) → every_from a l ≡ true → a ≡ true

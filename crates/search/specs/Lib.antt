@@ -1,5 +1,4 @@
 pub mod Test
 pub mod First
 pub mod InnerCut
-pub mod Order
 pub mod InnerOrder

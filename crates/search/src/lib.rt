@@ -1,6 +1,5 @@
-// What a search answers, and how two numbers stand to one another. The tests and searches themselves are definitions, in specs/, each with
-// the laws by which a loop works it out.
+// Tests of many things at once, searches, and how lists of numbers stand to one another: definitions, in specs/, each with the laws by which
+// a loop works it out. What a search finds is an `Option`, how two stand to one another an `Ordering`.
 #![tactic(auto)]
 
-pub mod found;
-pub mod order;
+pub mod halving;

@@ -1,18 +1,21 @@
 -- A loop over a list stands before what is left of it, `drop i us`: one turn on, a function that recurses on the list has gone one cell on, and
 -- past the end it has its value for no cells.
-use mathlib.Core.Path.{◌≡◌}
+use mathlib.Core.Path.{◌≡◌, refl, ◌∙◌}
 use mathlib.Core.Logic.{◌≢◌}
 use mathlib.Core.List.{List, [], ◌∷◌}
-use mathlib.Core.Bool.{Bool, not}
+use mathlib.Core.Bool.{Bool, cond, not}
 use Prim.Native.Nat.{ℕ, suc, ◌+◌, ◌*◌, ◌%◌, ◌≤◌, ◌<◌, min}
 use native.Mathlib.Decide.{ℕ_discrete}
 use native.Mathlib.Numerals.{add-one}
 use native.Mathlib.Omega.{arith}
+use borrow.Author.Tests.{eq-eqb, ne_eqb}
+use lib.Dec.{eqb}
 use lib.ListN.{length, get_or, drop, drop_of_length-le}
 use lib.Seq.{drop-cons}
+use Rattle.std.specs.List.{list_any}
 use Rattle.settle.specs.Shown.{at, Whole}
 use Rattle.settle.specs.Step.{closes, rises, least, move_by, move_pair, twin, room}
-use Rattle.settle.proofs.LawLine.{pick_yes, pick_no}
+use Rattle.settle.proofs.LawLine.{pick_yes, pick_no, by_dec}
 use Rattle.settle.proofs.LawWalk.{closes_whole, closes_here}
 
 pub drop_next : (l : List ℕ) (i : ℕ) → i < length l → drop i l ≡ get_or l i 0 ∷ drop (i + 1) l
@@ -30,18 +33,14 @@ module _ (W K : ℕ) (t : List ℕ) (r : ℕ) (us : List ℕ) (i : ℕ) where
   unfolding closes
   closes_out l = rw (drop_of_length-le us l)
 
-module _ (up : Bool) (mark : ℕ) (us : List ℕ) (i : ℕ) where
-  pub rises_stop : i < length us → get_or us i 0 ≡ mark → rises up mark (drop i us) ≡ up
-  unfolding rises
-  rises_stop l h = rw (drop_next us i l) (pick_yes (ℕ_discrete (get_or us i 0) mark) _ _ h)
-
-  pub rises_on : i < length us → get_or us i 0 ≢ mark → rises up mark (drop i us) ≡ rises up mark (drop (i + 1) us)
-  unfolding rises
-  rises_on l h = rw (drop_next us i l) (pick_no (ℕ_discrete (get_or us i 0) mark) _ _ h)
-
-  pub rises_out : length us ≤ i → rises up mark (drop i us) ≡ not up
-  unfolding rises
-  rises_out l = rw (drop_of_length-le us l)
+-- whether the marked cell is in the round decides which way it goes
+pub rises_by : (lift : Bool) (mark : ℕ) (us : List ℕ) → rises lift mark us ≡ cond (list_any (λ u. eqb u mark) us) lift (not lift)
+unfolding rises
+rises_by lift mark [] = refl
+rises_by lift mark (u ∷ us) =
+    by_dec (ℕ_discrete u mark)
+    (λ e. pick_yes (ℕ_discrete u mark) _ _ e ∙ rw (eq-eqb u mark e) refl)
+    (λ e. pick_no (ℕ_discrete u mark) _ _ e ∙ rw (ne_eqb u mark e) (rises_by lift mark us))
 
 module _ (W K : ℕ) (up : Bool) (t : List ℕ) (x : ℕ) (us : List ℕ) (i : ℕ) where
   pub least_on : i < length us → least W K up t x (drop i us)

@@ -5,7 +5,7 @@ use mathlib.Core.Logic.{◌≢◌}
 use mathlib.Core.List.{List, [], ◌∷◌}
 use mathlib.Core.Bool.{Bool, not}
 use Prim.Native.Nat.{ℕ, zero, suc, ◌+◌, ◌-◌, ◌*◌, ◌%◌, ◌≤◌, ◌<◌}
-use native.Mathlib.Nat.{le_of_suc-le-suc, mul-one, zero-add, le_refl, le_of_eq, sub-zero}
+use native.Mathlib.Nat.{le_of_suc-le-suc, mul-one, zero-add, le_refl, le_of_eq}
 use native.Mathlib.Decide.{ℕ_discrete, dec_lt}
 use native.Mathlib.Omega.{arith}
 use lib.Dec.{eqb}
@@ -275,9 +275,6 @@ pub record Settling (g : Grid) (f : ℕ) (t₀ t : List ℕ) (steps : ℕ) : Typ
   pub few : steps ≤ f
   pub rest : after (step_mirrored g) (f - steps) t ≡ after (step_mirrored g) f t₀
   pub counted : steps + changes (step_mirrored g) g.unit (f - steps) t ≡ changes (step_mirrored g) g.unit f t₀
-
-pub settling_start : {g : Grid} (f : ℕ) {t : List ℕ} → Table g t → Settling g f t t 0
-settling_start f h = record { table = h; few = omega arith; rest = rw sub-zero refl; counted = rw (sub-zero, zero-add) refl }
 
 module _ {g : Grid} {f : ℕ} {t₀ t : List ℕ} {steps : ℕ} (h : Settling g f t₀ t steps) where
   -- all are taken

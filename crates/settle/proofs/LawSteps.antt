@@ -102,9 +102,6 @@ changes_most {g} f {t} h = omega (arith, changes_loose f h, count_most g.unit t,
 
 -- the code's way: the table t is copied to c, mirrored to z, and f steps lead from there to s
 module _ {g : Grid} {t c : List ℕ} (h : Good g t) (p : c ≡ t) where
-  pub copy_bounded : Bounded g.columns g.rows c
-  copy_bounded = rw p (good_bounded h)
-
   module _ {z : List ℕ} (q : z ≡ mirror g.columns g.rows c) where
     pub mirror_table : Table g z
     mirror_table = rw (q, p) (good_table h)

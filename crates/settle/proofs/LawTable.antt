@@ -1,6 +1,6 @@
 -- The test for a good table goes conjunct by conjunct the way the statement goes field by field, so that each says the other. A line is added
 -- up by taking its cells off the total: what is left and what was taken off always make the total.
-use mathlib.Core.Path.{◌≡◌, refl, sym, ap, ◌∙◌}
+use mathlib.Core.Path.{◌≡◌, refl, sym, ap}
 use mathlib.Core.Bool.{true, false, ◌&&◌}
 use mathlib.Core.List.{List}
 use Prim.Native.Nat.{ℕ, zero, suc, ◌+◌, ◌-◌, ◌*◌, ◌%◌, ◌≤◌, ◌<◌}
@@ -9,7 +9,6 @@ use native.Mathlib.Numerals.{add-one}
 use native.Mathlib.Decide.{ℕ_discrete}
 use native.Mathlib.Omega.{arith}
 use borrow.Author.Tests.{leb-true, eqb-true, le-leb, eq-eqb, ne_eqb}
-use lib.Arith.{digits_lt}
 use lib.Dec.{eqb, leb}
 use lib.ListN.{length}
 use Rattle.search.specs.Test.{all}
@@ -37,12 +36,6 @@ module _ (t : List ℕ) (b s j left : ℕ) {x : ℕ} (h : left + sum t b s j ≡
   pub adds_over : {m : ℕ} → j < m → left < at t (b + j * s) → false ≡ eqb x (sum t b s m)
   unfolding sum
   adds_over {m} l q = sym (ne_eqb x (sum t b s m) (λ e. omega (arith, sum_most t b s (suc j) m l)))
-
-  pub adds_all : eqb left 0 ≡ eqb x (sum t b s j)
-  adds_all =
-      by_dec (ℕ_discrete left 0)
-      (λ e. eq-eqb left 0 e ∙ sym (eq-eqb x (sum t b s j) (omega arith)))
-      (λ e. ne_eqb left 0 e ∙ sym (ne_eqb x (sum t b s j) (omega arith)))
 
 -- what the test says of the table's shape
 pub record Sizes (W K n : ℕ) : Type 0 where
@@ -129,7 +122,7 @@ good_is {g} {t} h =
       all_of (column_adds_up g.columns g.rows t) g.columns (λ j l. eq-eqb _ _ (h.sums.columns j l)),
     ) refl))
 
--- the last row, and the lines that the test adds up
+-- the last row ends where the table does
 pub last_row : (K : ℕ) {n : ℕ} → 0 < n → (n - 1) * K + K ≡ n * K
 last_row K {n} h = let e : n ≡ suc (n - 1) = omega arith in omega (arith, ap (λ (k : ℕ). k * K) e)
 
@@ -149,16 +142,3 @@ module _ {K n : ℕ} {t : List ℕ} (f : Frame K n t) where
   -- the first cell of row i, in a list as long as the table
   pub row_begins : (i : ℕ) (s : List ℕ) → length s ≡ length t → i < n → i * K < length s
   row_begins i s e l = omega (arith, row_ends K l, f.size, f.small.wide)
-
-  pub row_rest : {i : ℕ} → i < n → Line t (i * K + 1) 1 (K - 1)
-  row_rest {i} l =
-      let d = row_ends K l in
-      let w = f.small.wide in
-      record { cells = λ k z. omega (arith, f.size); small = omega (arith, f.small.few) }
-
-  pub column_rest : {j : ℕ} → j < K → Line t j K (n - 1)
-  column_rest l =
-      record {
-        cells = λ k z. let a : k < n = omega arith in omega (arith, digits_lt a l, f.size);
-        small = omega (arith, last_row K f.small.high, f.small.few);
-      }

@@ -13,7 +13,7 @@ use lib.ListN.{length, get_or, set, take, drop}
 use lib.Seq.{take_all}
 use Rattle.settle.specs.Shown.{at, Whole}
 use Rattle.settle.specs.Step.{pick, whole?, seek, closes, walk, end_column}
-use Rattle.settle.specs.Inner.{most_cells, Small, Even, Misses, Apart, New, Hop, Trail, Closed, Line, Passed, Start}
+use Rattle.settle.specs.Inner.{Small, Even, Misses, Apart, New, Hop, Trail, Closed, Line, Passed, Start}
 use Rattle.settle.proofs.LawLine.{pick_yes, pick_no, by_dec, finds}
 
 -- the newest row of the path is not r
@@ -247,16 +247,9 @@ module _ (W K n : ℕ) (t : List ℕ) (f : ℕ) (path : List ℕ) (r c : ℕ) wh
 
 -- the lines of a table
 module _ {W K n : ℕ} {t : List ℕ} (small : Small K n) (ev : Even W K n t) where
-  pub row_line : {r : ℕ} → r < n → Line t (r * K) 1 K
-  row_line l =
-      record { cells = λ k z. omega (arith, digits_lt l z, ev.size); small = omega (arith, mul-le-mul_right K l, small.few) }
-
   pub column_line : {c : ℕ} → c < K → Line t c K n
   column_line l =
       record { cells = λ k z. omega (arith, digits_lt z l, ev.size); small = omega (arith, small.few, small.narrow) }
-
-pub all_line : {t : List ℕ} → length t ≤ most_cells → Line t 0 1 (length t)
-all_line l = record { cells = λ k z. omega arith; small = omega arith }
 
 -- a column need not be searched above the first loose cell's row
 module _ {W K n : ℕ} {t : List ℕ} {i top : ℕ} (h : Start W K n t i) (e : top ≡ i / K) where

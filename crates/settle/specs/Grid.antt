@@ -1,14 +1,8 @@
 -- The numbers by which a table is read. A table is a list of cells, row after row: column 0 has the rows' sums, the last row the columns'
--- sums.
+-- sums. A cell is whole where it is a multiple of the unit; `marked` is the column whose total never goes down, and a number that is no
+-- column marks none.
 use Rattle.std.specs.Prelude.{ℕ, ◌*◌}
-
-pub record Grid : Type 0 where
-  -- a cell is whole where it is a multiple of the unit
-  pub unit : ℕ
-  pub columns : ℕ
-  pub rows : ℕ
-  -- the column whose total never goes down; a number that is no column marks none
-  pub marked : ℕ
+pub use Rattle.settle.specs.declared.Grid.{Grid}
 
 abbrev pub grid : (unit columns rows marked : ℕ) → Grid
 grid unit columns rows marked = record { unit = unit; columns = columns; rows = rows; marked = marked }

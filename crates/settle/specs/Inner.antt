@@ -1,9 +1,9 @@
 -- What the private functions ask of their callers and answer them: nothing that a caller of the library has to read.
-use Rattle.std.specs.Prelude.{◌≡◌, ◌≢◌, ◌⊎◌, List, [], ◌∷◌, ℕ, ◌+◌, ◌-◌, ◌*◌, ◌/◌, ◌%◌, ◌≤◌, ◌<◌, length, drop, take}
+use Rattle.std.specs.Prelude.{◌≡◌, ◌≢◌, ◌⊎◌, List, [], ◌∷◌, ℕ, ◌+◌, ◌-◌, ◌*◌, ◌/◌, ◌%◌, ◌≤◌, ◌<◌, length}
 use Rattle.settle.specs.Grid.{Grid, area}
 use Rattle.settle.specs.Shown.{at, Whole, sum}
 use Rattle.settle.specs.Table.{limit, most_columns, most_rows, Shape, Good}
-use Rattle.settle.specs.Step.{twin, end_column, first_loose, round_from, after, changes}
+use Rattle.settle.specs.Step.{twin, end_column, first_loose, after, changes}
 
 -- ---- sizes
 
@@ -135,13 +135,6 @@ pub record Start (W K n : ℕ) (t : List ℕ) (i : ℕ) : Type 0 where
   pub inside : i < n * K
   pub loose : at t i % W ≢ 0
   pub before : WholeTo W t i
-
--- the round from i stands in the array us, from place a to before place e
-pub record Traced (W K n : ℕ) (t : List ℕ) (i : ℕ) (us : List ℕ) (a e : ℕ) : Type 0 where
-  pub some : a < e
-  pub inside : e ≤ length us
-  pub cells : take (e - a) (drop a us) ≡ round_from W K n t i
-  pub size : length us ≡ most_columns
 
 -- cells that may be moved up to the limit
 pub record Bounds (W K : ℕ) (t : List ℕ) : Type 0 where

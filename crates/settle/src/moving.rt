@@ -1,23 +1,17 @@
 // Moves a round. The table is mirrored, and a round is the list of the cells by which its rows are entered, newest first.
-ghost use Rattle.std.specs.Prelude.{◌<◌, min, ◌≡◌};
+ghost use Rattle.std.specs.Prelude.{◌<◌, ◌≡◌};
 ghost use Rattle.settle.specs.Inner as inner;
 ghost use Rattle.settle.specs.Step as spec;
 
-use crate::{LARGE_UNIT, MIDDLE_UNIT, SMALL_UNIT};
+use crate::unit::by_unit;
 
 // Whether the round's cells go up, where the marked cell is to go up (`lift`) or down: as it has to if it is one of them, else the other
 // way, so that it goes as it has to where it is a twin.
+#[tactic(auto, using(crate::proofs::LawLoop::rises_by))]
 fn rises(lift: bool, mark: usize, us: &[usize]) -> bool
     ensures { result ≡ spec.rises lift mark us.now }
 {
-    let mut i = 0;
-    while i < us.len() {
-        if us[i] == mark {
-            return lift;
-        }
-        i += 1;
-    }
-    !lift
+    if us.contains(&mark) { lift } else { !lift }
 }
 
 // How far a cell is from the next whole number, up or down.
@@ -35,47 +29,21 @@ fn part(wanted: bool, d: u64) -> u64
     if wanted { d } else { 0 }
 }
 
-fn lesser(a: u64, b: u64) -> u64
-    ensures { result ≡ min a b }
-{
-    if a < b { a } else { b }
-}
-
 // The least room over the round, which is left by column x.
-fn least_by(t: &[u64], w: u64, k: usize, up: bool, x: usize, us: &[usize]) -> u64
-    requires { inner.Measured w k t.now x us.now }
-    ensures { result ≡ spec.least w k up t.now x us.now }
-{
-    let mut i = 0;
-    let mut out = x;
-    let mut best = w;
-    while i < us.len() {
-        let u = us[i];
-        let d = u / k * k + out;
-        let a = room(up, w, t[u]);
-        let b = room(!up, w, t[d]);
-        best = lesser(best, lesser(a, b));
-        out = u % k;
-        i += 1;
-    }
-    best
-}
-
-// The same, compiled for each usual unit by itself.
 fn least(t: &[u64], w: u64, k: usize, up: bool, x: usize, us: &[usize]) -> u64
     requires { inner.Measured w k t.now x us.now }
     ensures { result ≡ spec.least w k up t.now x us.now }
 {
-    if w == SMALL_UNIT {
-        return least_by(t, SMALL_UNIT, k, up, x, us);
+    let mut out = x;
+    let mut best = w;
+    for u in us {
+        let d = *u / k * k + out;
+        let a = room(up, w, t[*u]);
+        let b = room(!up, w, t[d]);
+        best = best.min(a.min(b));
+        out = *u % k;
     }
-    if w == MIDDLE_UNIT {
-        return least_by(t, MIDDLE_UNIT, k, up, x, us);
-    }
-    if w == LARGE_UNIT {
-        return least_by(t, LARGE_UNIT, k, up, x, us);
-    }
-    least_by(t, w, k, up, x, us)
+    best
 }
 
 // The round's cells up by p and down by m, their twins the other way. (The contract counts in units of w.)
@@ -83,17 +51,14 @@ fn move_by(t: &mut [u64], w: u64, k: usize, p: u64, m: u64, x: usize, us: &[usiz
     requires { inner.Movable w k p m t.old x us.now }
     ensures { t.new ≡ spec.move_by k p m x us.now t.old }
 {
-    let mut i = 0;
     let mut out = x;
-    while i < us.len() {
-        let u = us[i];
-        let d = u / k * k + out;
-        let a = t[u];
+    for u in us {
+        let d = *u / k * k + out;
+        let a = t[*u];
         let b = t[d];
-        t[u] = a + p - m;
+        t[*u] = a + p - m;
         t[d] = b + m - p;
-        out = u % k;
-        i += 1;
+        out = *u % k;
     }
 }
 
@@ -104,6 +69,6 @@ pub(crate) fn move_round(t: &mut [u64], w: u64, k: usize, lift: bool, mark: usiz
 {
     let x = us[us.len() - 1] % k;
     let up = rises(lift, mark, us);
-    let d = least(t, w, k, up, x, us);
+    let d = by_unit(w, &mut |w| least(t, w, k, up, x, us));
     move_by(t, w, k, part(up, d), part(!up, d), x, us);
 }

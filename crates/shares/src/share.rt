@@ -1,8 +1,9 @@
 // A meter reading, and k: the share of the production that a treatment ran for.
 ghost use Rattle.std.specs.Prelude.{◌≡◌};
+ghost use Rattle.shares.specs.Inner.{read_of};
 ghost use Rattle.shares.specs.Share.{goes_with, ratio, hours_share, energy_share, share_of, share_by};
 
-use amounts::reading::{PARTS_PER_UNIT, Taken, parts_of};
+use amounts::reading::{PARTS_PER_UNIT, parts_of};
 use answers::answer::LineFault;
 
 // Limits, in whole hours, kW and kWh.
@@ -27,14 +28,17 @@ pub enum Reading {
     Throughout,
 }
 
-// k as n over d, or what is wrong.
-#[derive(Clone, Copy)]
-pub enum Share {
-    Part(u64, u64),
-    NoShare(LineFault),
+// n over d.
+#[derive(Clone, Copy, Debug, PartialEq, Eq)]
+pub struct Fraction {
+    pub n: u64,
+    pub d: u64,
 }
 
+const ONE: Fraction = Fraction { n: 1, d: 1 };
+
 // Kind 1 goes with k rule 1, kind 2 with k rule 2, kind 3 with either, kind 0 with none.
+#[tactic(auto, unfolding(crate::specs::Share::goes_with))]
 fn goes_with(reading: Reading, rule: usize) -> bool
     ensures { result ≡ goes_with reading rule }
 {
@@ -50,66 +54,73 @@ fn goes_with(reading: Reading, rule: usize) -> bool
 }
 
 // n over d where there is a divisor; for an n above d the caller says what is answered.
-fn ratio(n: u64, d: u64, excess: Share) -> Share
+#[tactic(auto, unfolding(crate::specs::Share::ratio))]
+fn ratio(n: u64, d: u64, excess: Result<Fraction, LineFault>) -> Result<Fraction, LineFault>
     ensures { result ≡ ratio n d excess }
 {
     if d == 0 {
-        return Share::NoShare(LineFault::ZeroDivisor);
+        return Err(LineFault::ZeroDivisor);
     }
-    if n <= d { Share::Part(n, d) } else { excess }
+    if n <= d {
+        Ok(Fraction { n, d })
+    } else {
+        excess
+    }
 }
 
-fn hours_share(run: f64, production: f64) -> Share
+// The parts of x, within the limit of `most` whole units.
+#[tactic(auto, unfolding(crate::specs::Inner::as_read))]
+fn taken(x: f64, most: u32) -> Result<u64, LineFault>
+    ensures { result ≡ read_of most x }
+{
+    parts_of(x, most).map_err(|_| LineFault::BadReading)
+}
+
+#[tactic(auto, unfolding(crate::specs::Share::hours_share, crate::specs::Share::if_taken, crate::specs::Inner::as_read))]
+fn hours_share(run: f64, production: f64) -> Result<Fraction, LineFault>
     ensures { result ≡ hours_share run production }
 {
-    let Taken::Is(n) = parts_of(run, MOST_HOURS) else {
-        return Share::NoShare(LineFault::BadReading);
-    };
-    let Taken::Is(d) = parts_of(production, MOST_HOURS) else {
-        return Share::NoShare(LineFault::BadReading);
-    };
+    let n = taken(run, MOST_HOURS)?;
+    let d = taken(production, MOST_HOURS)?;
     // By the rules a fan that ran longer than the furnace ran for all of the production.
-    ratio(n, d, Share::Part(1, 1))
+    ratio(n, d, Ok(ONE))
 }
 
-fn energy_share(e: EnergyReading) -> Share
+#[tactic(auto, unfolding(crate::specs::Share::energy_share, crate::specs::Share::if_taken, crate::specs::Inner::as_read))]
+fn energy_share(e: EnergyReading) -> Result<Fraction, LineFault>
     ensures { result ≡ energy_share e }
 {
-    let Taken::Is(kwh) = parts_of(e.kwh, MOST_KILOWATT_HOURS) else {
-        return Share::NoShare(LineFault::BadReading);
-    };
-    let Taken::Is(kw) = parts_of(e.kw, MOST_KILOWATTS) else {
-        return Share::NoShare(LineFault::BadReading);
-    };
-    let Taken::Is(hours) = parts_of(e.hours, MOST_HOURS) else {
-        return Share::NoShare(LineFault::BadReading);
-    };
+    let kwh = taken(e.kwh, MOST_KILOWATT_HOURS)?;
+    let kw = taken(e.kw, MOST_KILOWATTS)?;
+    let hours = taken(e.hours, MOST_HOURS)?;
     // By the rules an excess of energy means a wrong rating plate.
-    let over_rating = Share::NoShare(LineFault::KAboveOne);
+    let over_rating = Err(LineFault::KAboveOne);
     ratio(kwh * PARTS_PER_UNIT, kw * hours, over_rating)
 }
 
 // Of the reading alone; no reading is of no kind that goes with a rule.
-fn share_of(reading: Reading) -> Share
+#[tactic(auto, unfolding(crate::specs::Share::share_of))]
+fn share_of(reading: Reading) -> Result<Fraction, LineFault>
     ensures { result ≡ share_of reading }
 {
     match reading {
-        Reading::None => Share::NoShare(LineFault::WrongKind),
+        Reading::None => Err(LineFault::WrongKind),
         Reading::Hours { run, production } => hours_share(run, production),
         Reading::Energy(e) => energy_share(e),
-        Reading::Throughout => Share::Part(1, 1),
+        Reading::Throughout => Ok(ONE),
     }
 }
 
 // k for a row of the book with this k rule, 1 hours or 2 energy. The kind is looked at first, then the numbers in their order, then the
 // divisor, then whether k is above 1: with hours it is then exactly 1, with energy it is refused. Under any other rule every reading is of
 // the wrong kind.
-pub fn share_by(reading: Reading, rule: usize) -> Share
+#[tactic(auto, unfolding(crate::specs::Share::share_by))]
+pub fn share_by(reading: Reading, rule: usize) -> Result<Fraction, LineFault>
     ensures { result ≡ share_by reading rule }
 {
     if goes_with(reading, rule) {
         share_of(reading)
     } else {
-        Share::NoShare(LineFault::WrongKind)
+        Err(LineFault::WrongKind)
     }
 }

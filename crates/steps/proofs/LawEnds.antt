@@ -15,7 +15,9 @@ use Rattle.little.specs.Read.{AreBytes}
 use Rattle.headers.specs.House.{file_ok}
 use Rattle.headers.specs.Sheet.{sheet_header, sheet_header_size, sheet_fits, sheet_header_ok, line_count}
 use Rattle.headers.specs.Unit.{is_unit, unit_of_sheet}
-use Rattle.settle.specs.Grid.{Grid, grid}
+use Rattle.std.specs.Prelude.{⊤, Result, Ok}
+use Rattle.settle.specs.Grid.{grid}
+use Rattle.settle.specs.declared.Grid.{Grid}
 use Rattle.settle.specs.Table.{Good}
 use Rattle.settle.specs.Step.{step, after, changes, units, shown_table}
 use Rattle.settle.proofs.LawLine.{by_dec}
@@ -31,8 +33,7 @@ use Rattle.desk.specs.Declare.{shown_after, BothAfter, Declared}
 use Rattle.desk.specs.Inner.{Right}
 use Rattle.desk.proofs.LawTable.{accepted_both, ready}
 use Rattle.desk.proofs.LawDeclare.{first_cells, table_size_lem, settles}
-use Rattle.answers.specs.declared.answer.Outcome.{Outcome}
-use Rattle.answers.specs.declared.answer.Outcome.TheVariants.{Accepted}
+use Rattle.answers.specs.declared.answer.Refusal.{Refusal}
 use Rattle.steps.specs.Table.{lent_grid, can_settle}
 use Rattle.steps.specs.Count.{StepCount, count_answer}
 use Rattle.steps.specs.Ends.{table_in, unit_code, EndsShown}
@@ -89,7 +90,7 @@ module _ (f : Lent) (good : Right f.sources) (bytes : AreBytes f.sources.fugitiv
   ends =
       shown_steps is_good_lem ∙ ap (units g.unit) (same_end counts (length table) (omega (arith, counts.most, is_good_lem.size)))
 
-  module _ {exact shown exact' shown' : List ℕ} (h : BothAfter f exact shown Accepted exact' shown') where
+  module _ {exact shown exact' shown' : List ℕ} (h : BothAfter f exact shown (Ok tt) exact' shown') where
     here : table_in f exact' ≡ table
     here = first_cells lines (line_outcome f) exact exact' h.table
 
@@ -113,11 +114,11 @@ module _ (f : Lent) (good : Right f.sources) (bytes : AreBytes f.sources.fugitiv
         }
 
 -- Where the steps from the exact table end is, divided by W, the desk's shown table. (That the fugitive table is bytes the code has by its type.)
-pub steps_end_in_shown_table : (f : Lent) {exact shown exact' shown' : List ℕ} {r : Outcome} → AreBytes f.sources.fugitive
-    → Declared f exact shown r exact' shown' → r ≡ Accepted → EndsShown f exact' shown'
+pub steps_end_in_shown_table : (f : Lent) {exact shown exact' shown' : List ℕ} {r : Result ⊤ Refusal} → AreBytes f.sources.fugitive
+    → Declared f exact shown r exact' shown' → r ≡ Ok tt → EndsShown f exact' shown'
 unfolding answer_of
 steps_end_in_shown_table f {exact} {shown} {exact'} {shown'} bytes d e =
     let room = min (length exact) (length shown) in
     let files = (accepted_both (by_files f room) (by_lines (line_count f.sheet) (line_outcome f)) (sym d.demand1.answer ∙ e)).0 in
     let ok = ready f room files in
-    both_end f ok.sources bytes ok.sheet (subst (λ (o : Outcome). BothAfter f exact shown o exact' shown') e d.tables)
+    both_end f ok.sources bytes ok.sheet (subst (λ (o : Result ⊤ Refusal). BothAfter f exact shown o exact' shown') e d.tables)

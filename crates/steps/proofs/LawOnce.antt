@@ -6,11 +6,13 @@ use Prim.Native.Nat.{ℕ, ◌<◌}
 use native.Mathlib.Decide.{ℕ_discrete, dec_lt}
 use native.Mathlib.Omega.{arith}
 use lib.ListN.{length, take-append-drop}
-use Rattle.settle.specs.Grid.{Grid}
+use Rattle.std.specs.Prelude.{Result}
+use Rattle.settle.specs.declared.Grid.{Grid}
 use Rattle.settle.proofs.LawLine.{by_dec}
 use Rattle.answers.specs.Step.{step_number}
-use Rattle.answers.specs.declared.step.StepOutcome.{StepOutcome}
-use Rattle.answers.specs.declared.step.CountOutcome.{CountOutcome}
+use Rattle.answers.specs.declared.step.Stepped.{Stepped}
+use Rattle.answers.specs.declared.step.StepFault.{StepFault}
+use Rattle.answers.specs.declared.step.TableOff.{TableOff}
 use Rattle.steps.specs.Step.{SettlingStep, TakesStep}
 use Rattle.steps.specs.Count.{StepCount, CountsSteps}
 
@@ -24,7 +26,7 @@ one_count {n = n} {m = m} p h =
     (λ (l : n < m). absurd (h.changing n l (p.ended n (omega arith))))
     (λ q. by_dec (dec_lt m n) (λ (l : m < n). absurd (p.changing m l (h.ended m (omega arith)))) (λ z. omega arith))
 
-pub one_step : {unit : ℕ} {t lent x y : List ℕ} {r q : StepOutcome} → TakesStep unit t lent r x → TakesStep unit t lent q y
+pub one_step : {unit : ℕ} {t lent x y : List ℕ} {r q : Result Stepped StepFault} → TakesStep unit t lent r x → TakesStep unit t lent q y
     → (r ≡ q) × (x ≡ y)
 one_step {unit} {t} {lent} {x} {y} {r} {q} p h =
     let e = p.answer ∙ sym h.answer in (
@@ -38,5 +40,5 @@ one_step {unit} {t} {lent} {x} {y} {r} {q} p h =
           (λ z. p.refused_zero z ∙ sym (h.refused_zero (λ w. z (ap step_number e ∙ w)))),
     )
 
-pub one_counting : {unit : ℕ} {t : List ℕ} {r q : CountOutcome} → CountsSteps unit t r → CountsSteps unit t q → r ≡ q
+pub one_counting : {unit : ℕ} {t : List ℕ} {r q : Result ℕ TableOff} → CountsSteps unit t r → CountsSteps unit t q → r ≡ q
 one_counting p h = p.answer ∙ sym h.answer

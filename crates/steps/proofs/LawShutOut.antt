@@ -13,14 +13,15 @@ use borrow.Author.Tests.{eqb-true, ne_eqb}
 use lib.Dec.{eqb}
 use Rattle.search.specs.Test.{all}
 use Rattle.search.proofs.LawTest.{either_way, all_at}
-use Rattle.settle.specs.Grid.{Grid, grid}
+use Rattle.std.specs.Prelude.{Err}
+use Rattle.settle.specs.Grid.{grid}
+use Rattle.settle.specs.declared.Grid.{Grid}
 use Rattle.settle.specs.Shown.{at, sum}
 use Rattle.settle.specs.Step.{loose, end_column, twin, step_round}
 use Rattle.settle.specs.Moves.{twins, round_cells, Among, OneRound}
 use Rattle.settle.proofs.LawLine.{by_dec}
 use Rattle.settle.proofs.LawOneRound.{among_left, among_right, among_either}
-use Rattle.answers.specs.declared.step.StepOutcome.TheVariants.{TableOff}
-use Rattle.answers.specs.declared.step.CountOutcome.TheVariants as count
+use Rattle.answers.specs.declared.step.StepFault.TheVariants.{TableOff}
 use Rattle.steps.specs.Table.{can_settle, CanSettle}
 use Rattle.steps.specs.Step.{WholeTable, SettlingStep, step_answer}
 use Rattle.steps.specs.Count.{StepCount, count_answer}
@@ -133,11 +134,11 @@ one_short n p h = omega (arith, one_count p h)
 -- ---- 22, whatever room there is: so never 3 before it
 
 module _ (unit : ℕ) (t : List ℕ) (off : CanSettle unit t → ⊥) where
-  pub off_refused : (room : ℕ) → step_answer unit t room ≡ TableOff
+  pub off_refused : (room : ℕ) → step_answer unit t room ≡ Err TableOff
   unfolding step_answer
   off_refused room = either_way (can_settle unit t) (λ e. absurd (off (can_settle_lem unit t e))) (λ e. rw e refl)
 
-  pub off_not_counted : count_answer unit t ≡ count.TableOff
+  pub off_not_counted : count_answer unit t ≡ Err record {}
   unfolding count_answer
   off_not_counted = either_way (can_settle unit t) (λ e. absurd (off (can_settle_lem unit t e))) (λ e. rw e refl)
 

@@ -7,7 +7,7 @@ use Prim.Native.Nat.{ℕ, zero, suc, ◌≤◌, ◌<◌}
 use native.Mathlib.Decide.{ℕ_discrete}
 use native.Mathlib.Omega.{arith}
 use lib.ListN.{length}
-use Rattle.settle.specs.Grid.{Grid}
+use Rattle.settle.specs.declared.Grid.{Grid}
 use Rattle.settle.specs.Table.{Good}
 use Rattle.settle.specs.Step.{loose, step, after, changes}
 use Rattle.settle.proofs.LawLine.{pick_yes, pick_no, by_dec}

@@ -3,7 +3,8 @@ use mathlib.Core.Path.{◌≡◌, refl}
 use mathlib.Core.List.{List, [], ◌∷◌}
 use Prim.Native.Nat.{ℕ}
 use native.Mathlib.Decide.{ℕ_discrete, dec_lt, dec_le}
-use Rattle.settle.specs.Grid.{Grid, grid}
+use Rattle.settle.specs.Grid.{grid}
+use Rattle.settle.specs.declared.Grid.{Grid}
 use Rattle.settle.specs.Step.{seek, closes, walk, end_column, move_by, least, rises, move_round, step_mirrored, marked_cell, mirror_cell, mirrors, step}
 use Rattle.settle.specs.Step.{loose, changes}
 

@@ -1,10 +1,9 @@
 -- "Where the steps from the exact table end is, divided by W, the desk's shown table."
-use Rattle.std.specs.Prelude.{ℕ, ◌≤◌, ◌≡◌, true, List, take}
+use Rattle.std.specs.Prelude.{ℕ, ◌≤◌, ◌≡◌, true, List, take, Ok}
 use Rattle.headers.specs.Sheet.{sheet_header, line_count}
 use Rattle.settle.specs.Step.{step, after, units}
 use Rattle.desk.specs.Cells.{table_size}
 use Rattle.desk.specs.Lent.{Lent}
-use Rattle.answers.specs.declared.step.CountOutcome.TheVariants.{Changes}
 use Rattle.steps.specs.Table.{lent_grid, can_settle}
 use Rattle.steps.specs.Count.{StepCount, count_answer}
 
@@ -22,7 +21,7 @@ pub record EndsShown (f : Lent) (exact' shown' : List ℕ) : Type 0 where
   pub taken : can_settle (unit_code f) (table_in f exact') ≡ true
   -- so many steps from it on change something
   pub count : ℕ
-  pub counted : count_answer (unit_code f) (table_in f exact') ≡ Changes count
+  pub counted : count_answer (unit_code f) (table_in f exact') ≡ Ok count
   pub counts : StepCount (lent_grid (unit_code f) (table_in f exact')) (table_in f exact') count
   -- at most 5 × (lines + 1)
   pub most : count ≤ table_size (line_count f.sheet)

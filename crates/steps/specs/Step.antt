@@ -1,12 +1,15 @@
 -- "Offer a single settling step": what it answers, what it leaves, and every sentence about it.
-use Rattle.std.specs.Prelude.{ℕ, ◌+◌, ◌*◌, ◌/◌, ◌≤◌, ◌<◌, ◌≡◌, ◌≢◌, cond, List, eqb, leb, length, take, drop, replicate}
-use Rattle.settle.specs.Grid.{Grid, area}
+use Rattle.std.specs.Prelude.{ℕ, ◌+◌, ◌*◌, ◌/◌, ◌≤◌, ◌<◌, ◌≡◌, ◌≢◌, cond, List, eqb, leb, length, take, drop, replicate, Result, Ok, Err}
+use Rattle.settle.specs.Grid.{area}
+use Rattle.settle.specs.declared.Grid.{Grid}
 use Rattle.settle.specs.Shown.{at, Whole, Sums}
 use Rattle.settle.specs.Step.{loose, step, step_round, step_amount}
 use Rattle.settle.specs.Moves.{round_cells, OneRound}
 use Rattle.answers.specs.Step.{step_number}
-use Rattle.answers.specs.declared.step.StepOutcome.{StepOutcome}
-use Rattle.answers.specs.declared.step.StepOutcome.TheVariants as outcome
+use Rattle.answers.specs.declared.step.Stepped.{Stepped}
+use Rattle.answers.specs.declared.step.Stepped.TheVariants as stepped
+use Rattle.answers.specs.declared.step.StepFault.{StepFault}
+use Rattle.answers.specs.declared.step.StepFault.TheVariants.{TableOff, ResultTooShort}
 use Rattle.steps.specs.Table.{lent_grid, can_settle}
 
 -- no cell is loose
@@ -33,14 +36,14 @@ pub record SettlingStep (g : Grid) (t s : List ℕ) : Type 0 where
   pub fixed : s ≡ step g t
 
 -- 22, then 3; else whether something changed
-unfoldable pub step_answer : (unit : ℕ) (t : List ℕ) (room : ℕ) → StepOutcome
+unfoldable pub step_answer : (unit : ℕ) (t : List ℕ) (room : ℕ) → Result Stepped StepFault
 step_answer unit t room =
     cond (can_settle unit t)
-    (cond (leb (length t) room) (cond (eqb (loose (lent_grid unit t).unit t) 0) outcome.Whole outcome.Changed) outcome.ResultTooShort)
-    outcome.TableOff
+    (cond (leb (length t) room) (cond (eqb (loose (lent_grid unit t).unit t) 0) (Ok stepped.Whole) (Ok stepped.Changed)) (Err ResultTooShort))
+    (Err TableOff)
 
 -- the whole promise for a table t and a lent result of any content and size
-pub record TakesStep (unit : ℕ) (t lent : List ℕ) (r : StepOutcome) (lent' : List ℕ) : Type 0 where
+pub record TakesStep (unit : ℕ) (t lent : List ℕ) (r : Result Stepped StepFault) (lent' : List ℕ) : Type 0 where
   pub answer : r ≡ step_answer unit t (length lent)
   -- both refusals zero the lent result
   pub refused_zero : step_number r ≢ 0 → lent' ≡ replicate (length lent) 0

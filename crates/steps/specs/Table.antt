@@ -2,7 +2,8 @@
 -- can be settled, as a test and as a statement.
 use Rattle.std.specs.Prelude.{ℕ, ◌*◌, ◌/◌, ◌≤◌, ◌<◌, ◌≡◌, Bool, ◌&&◌, List, length}
 use Rattle.headers.specs.Unit.{is_unit, unit_of}
-use Rattle.settle.specs.Grid.{Grid, grid}
+use Rattle.settle.specs.Grid.{grid}
+use Rattle.settle.specs.declared.Grid.{Grid}
 use Rattle.settle.specs.Shown.{at, Sums}
 use Rattle.settle.specs.Table.{is_good}
 use Rattle.desk.specs.Cells.{width, discharged}

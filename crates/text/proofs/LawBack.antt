@@ -3,7 +3,7 @@ use Prim.Native.Nat.{ℕ, zero, suc, ◌+◌, ◌*◌, ◌≤◌}
 use mathlib.Core.Path.{◌≡◌, refl, ap, ◌∙◌}
 use mathlib.Core.Bool.{true}
 use mathlib.Core.List.{List, [], ◌∷◌, ◌++◌}
-use mathlib.Core.Option.{Option, none, some}
+use Rattle.std.specs.Prelude.{Option, None, Some}
 use native.Mathlib.Omega.{arith}
 use lib.Dec.{lit≤}
 use lib.ListN.{length, length-append}
@@ -14,9 +14,9 @@ use Rattle.search.proofs.LawTest.{either_way, clash, and_left, and_right, every_
 use Rattle.headers.specs.House.{most_bytes, file_ok}
 use Rattle.headers.specs.Sheet.{sheet_header, sheet_header_size, sheet_fits, sheet_header_ok, line_count, most_lines}
 use Rattle.shares.specs.declared.share.Reading.{Reading}
-use Rattle.shares.specs.declared.share.Reading.TheVariants.{None, Hours, Energy, Throughout}
+use Rattle.shares.specs.declared.share.Reading.TheVariants.{None as NoReading, Hours, Energy, Throughout}
 use Rattle.answers.specs.declared.answer.FileFault.TheVariants.{SheetMalformed}
-use Rattle.answers.specs.declared.answer.Outcome.TheVariants.{RefusedFile}
+use Rattle.answers.specs.declared.answer.Refusal.TheVariants.{File}
 use Rattle.records.specs.Records.{records_of}
 use Rattle.records.proofs.LawField.{no_records}
 use Rattle.desk.specs.Key.{key_from}
@@ -46,7 +46,7 @@ fronted bytes w (Refuses refusal) e = clash (cc)
 
 pub record LineGiven (line : Line) (others : Made) (w : List ℕ) : Type 0 where
   pub thousandths : List ℕ
-  pub taken : all_taken (used_of line) ≡ some thousandths
+  pub taken : all_taken (used_of line) ≡ Some thousandths
   pub front : Fronted (record_text (line_texts line thousandths)) others w
 
 pub line_given : (i : ℕ) (line : Line) (lines : List Line) (w : List ℕ) → lines_text i (line ∷ lines) ≡ Gives w → LineGiven line (lines_text (i + 1) lines) w
@@ -55,8 +55,8 @@ line_given i line lines w e = go (all_taken (used_of line)) refl e
   where
     go : (o : Option (List ℕ)) → all_taken (used_of line) ≡ o → with_line i line o (lines_text (i + 1) lines) ≡ Gives w
         → LineGiven line (lines_text (i + 1) lines) w
-    go none same is = clash (cc)
-    go (some ts) same is =
+    go None same is = clash (cc)
+    go (Some ts) same is =
         record { thousandths = ts; taken = same; front = fronted (record_text (line_texts line ts)) w (lines_text (i + 1) lines) is }
 
 no_lines_lem : (i : ℕ) (w : List ℕ) → lines_text i [] ≡ Gives w → w ≡ []
@@ -72,7 +72,7 @@ unfolding text_of_sheet
 sheet_given s w e =
     either_way (sheet_ok s)
     (λ p. record { right = p; front = fronted (record_text (header_texts s)) w (lines_text 0 (lines_from s 0 (line_count s))) (rw p at e) })
-    (λ p. let other : Refuses (RefusedFile SheetMalformed) ≡ Gives w = rw p at e in clash (cc))
+    (λ p. let other : Refuses (File SheetMalformed) ≡ Gives w = rw p at e in clash (cc))
 
 -- ---- its size
 
@@ -119,7 +119,7 @@ module _ (s : List ℕ) (bytes : AreBytes s) where
   grade_fits at = field_fits a_grade (byte_at s at) tt tt (omega (arith, bytes at))
 
 kind_fits : (reading : Reading) → FieldFits 3 (kind_number reading)
-kind_fits None = field_fits 3 0 tt tt (lit≤ tt)
+kind_fits NoReading = field_fits 3 0 tt tt (lit≤ tt)
 kind_fits (Hours run production) = field_fits 3 1 tt tt (lit≤ tt)
 kind_fits (Energy e) = field_fits 3 2 tt tt (lit≤ tt)
 kind_fits Throughout = field_fits 3 3 tt tt (lit≤ tt)
@@ -150,7 +150,7 @@ line_record : (line : Line) (ts rest : List ℕ) → records_of (record_text (li
 line_record line ts rest = record_first (line_texts line ts) rest (omega (arith, all_fields line ts)) (line_texts_lem line ts)
 
 pub lines_again : (s : List ℕ) → AreBytes s → (k i n : ℕ) (w : List ℕ) → lines_text k (lines_from s i n) ≡ Gives w
-    → lines_in (records_of w) ≡ some (lines_numbers (lines_from s i n))
+    → lines_in (records_of w) ≡ Some (lines_numbers (lines_from s i n))
 unfolding lines_from lines_in lines_numbers
 lines_again s bytes k i zero w e = rw (no_lines_lem k w e, no_records)
 lines_again s bytes k i (suc n) w e =
@@ -191,7 +191,7 @@ module _ (s : List ℕ) (right : sheet_ok s ≡ true) where
 
 -- ---- the sheet
 
-pub written_read : (s w : List ℕ) → AreBytes s → text_of_sheet s ≡ Gives w → (length w ≤ most_sheet_text) × (typed_sheet w ≡ some (sheet_numbers s))
+pub written_read : (s w : List ℕ) → AreBytes s → text_of_sheet s ≡ Gives w → (length w ≤ most_sheet_text) × (typed_sheet w ≡ Some (sheet_numbers s))
 unfolding typed_sheet sheet_numbers
 written_read s w bytes e =
     let size = written_size s w e in

@@ -21,7 +21,7 @@ use Rattle.amounts.proofs.LawParts.{parts_fit}
 use Rattle.headers.specs.House.{most_bytes, file_ok}
 use Rattle.headers.specs.Sheet.{SheetHeader, sheet_header, sheet_header_size, line_size, line_count, most_lines, sheet_fits, sheet_header_ok}
 use Rattle.shares.specs.declared.share.Reading.{Reading}
-use Rattle.shares.specs.declared.share.Reading.TheVariants.{None, Hours, Energy, Throughout}
+use Rattle.shares.specs.declared.share.Reading.TheVariants.{None as NoReading, Hours, Energy, Throughout}
 use Rattle.desk.specs.Key.{key_from}
 use Rattle.desk.specs.Sheet.{line_start, kind_at, line_ok, sheet_ok}
 use Rattle.desk.specs.Line.{reading_at, grades_at, line_at, line_of}
@@ -95,7 +95,7 @@ abbrev pub reading_said : (line : List ℕ) → Reading
 reading_said line =
     cond (eqb (kind_of line) 1) (Hours (float_said line 0) (float_said line 1))
     (cond (eqb (kind_of line) 2) (Energy (record { kwh = float_said line 0; kw = float_said line 1; hours = float_said line 2 }))
-    (cond (eqb (kind_of line) 3) Throughout None))
+    (cond (eqb (kind_of line) 3) Throughout NoReading))
 
 abbrev pub grades_said : (line : List ℕ) → Grades
 grades_said line = record { crushing = number_at line 13; tapping = number_at line 14; spill = number_at line 15 }

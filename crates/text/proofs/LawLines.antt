@@ -3,12 +3,14 @@ use Prim.Native.Nat.{ℕ, zero, suc, ◌+◌, ◌≤◌, ◌<◌}
 use mathlib.Core.Path.{◌≡◌, refl, sym, ap, ◌∙◌}
 use mathlib.Core.Bool.{Bool, true, false, not, ◌&&◌, ◌||◌}
 use mathlib.Core.List.{List, [], ◌∷◌, ◌++◌, append_assoc, append-nil}
-use mathlib.Core.Option.{Option, none, some}
+use Rattle.std.specs.Prelude.{Option, None, Some}
+use Rattle.std.specs.Bool.{then_some}
+use Rattle.std.specs.List.{list_any}
 use native.Mathlib.Nat.{zero-add}
 use native.Mathlib.Omega.{arith}
 use lib.Dec.{leb, eqb}
-use lib.ListN.{length, drop, get_or, length-append, length-drop, drop_of_length-le}
-use borrow.Author.Tests.{le-leb, lt-leb, ne_eqb}
+use lib.ListN.{length, drop, length-append, length-drop, drop_of_length-le}
+use borrow.Author.Tests.{le-leb, lt-leb, leb-true, leb-false, ne_eqb}
 use Rattle.search.specs.Test.{every}
 use Rattle.search.proofs.LawTest.{either_way, clash}
 use Rattle.headers.specs.House.{most_bytes}
@@ -19,26 +21,25 @@ use Rattle.numerals.proofs.LawLaid.{laid_more, laid_none, laid_before, length_la
 use Rattle.records.specs.Records.{pieces, record_in, records_of, is_quoted, content_of}
 use Rattle.records.specs.Inner.{following}
 use Rattle.records.proofs.LawField.{some_records, no_records}
-use Rattle.text.specs.Typed.{header_fields, field_number, numbers_in, header_in, line_in, before, lines_in, few_lines, none_zero, sheet_typed, sheet_in, typed_sheet}
+use Rattle.text.specs.Typed.{field_number, numbers_in, header_in, line_in, before, lines_in, few_lines, none_zero, sheet_typed, sheet_in, typed_sheet}
 use Rattle.text.specs.Binary.{line_bytes, lines_bytes, sheet_size, header_sizes, header_words, words_of, binary_sheet}
-use Rattle.text.specs.Inner.{all_before, LinesLaid, SheetLaid}
+use Rattle.text.specs.Inner.{all_before, LinesLaid, LinesFound, SheetLaid}
 use Rattle.text.proofs.LawBinary.{lines_size, header_size}
-use Rattle.text.proofs.LawMade.{numbers_size}
 
 -- ---- these lines before others
 
-before_none : (lines : List (List ℕ)) → all_before lines none ≡ none
+before_none : (lines : List (List ℕ)) → all_before lines None ≡ None
 unfolding all_before
 before_none [] = refl
 before_none (line ∷ lines) = rw (before_none lines) refl
 
-before_some : (lines others : List (List ℕ)) → all_before lines (some others) ≡ some (lines ++ others)
+before_some : (lines others : List (List ℕ)) → all_before lines (Some others) ≡ Some (lines ++ others)
 unfolding all_before
 before_some [] others = refl
 before_some (line ∷ lines) others = rw (before_some lines others) refl
 
 before_one : (lines : List (List ℕ)) (line : List ℕ) (others : Option (List (List ℕ)))
-    → all_before lines (before (some line) others) ≡ all_before (lines ++ (line ∷ [])) others
+    → all_before lines (before (Some line) others) ≡ all_before (lines ++ (line ∷ [])) others
 unfolding all_before
 before_one [] line others = refl
 before_one (l ∷ lines) line others = rw (before_one lines line others) refl
@@ -50,10 +51,10 @@ bytes_one (l ∷ lines) line = rw (bytes_one lines line) (sym (append_assoc (lin
 
 -- more than 128
 too_many : (lines : List (List ℕ)) (others : Option (List (List ℕ))) (line : Option (List ℕ)) → length lines ≡ most_lines
-    → few_lines (all_before lines (before line others)) ≡ none
-too_many lines others none e = rw (before_none lines) refl
-too_many lines none (some line) e = rw (before_none lines) refl
-too_many lines (some others) (some line) e =
+    → few_lines (all_before lines (before line others)) ≡ None
+too_many lines others None e = rw (before_none lines) refl
+too_many lines None (Some line) e = rw (before_none lines) refl
+too_many lines (Some others) (Some line) e =
     let size : length (lines ++ (line ∷ others)) ≡ most_lines + length (line ∷ others) = length-append lines (line ∷ others) ∙ rw e refl in
     rw (before_some lines (line ∷ others), lt-leb (length (lines ++ (line ∷ others))) most_lines (omega (arith, size))) refl
 
@@ -81,8 +82,8 @@ module _ (text : List ℕ) (at : ℕ) (sheet : List ℕ) where
     pub lines_done : length text ≤ next → LinesLaid (records_of (drop at text)) sheet lines sheet'
     unfolding lines_in
     lines_done past =
-        let gone : left next ≡ some [] = rw (drop_of_length-le text {i = next} past, no_records) refl in
-        let all : left at ≡ some so_far.done = so_far.whole ∙ rw (gone, before_some so_far.done [], append-nil so_far.done) refl in
+        let gone : left next ≡ Some [] = rw (drop_of_length-le text {i = next} past, no_records) refl in
+        let all : left at ≡ Some so_far.done = so_far.whole ∙ rw (gone, before_some so_far.done [], append-nil so_far.done) refl in
         let few : length so_far.done ≤ most_lines = omega (arith, so_far.few, so_far.count) in
         record {
           lines = so_far.done;
@@ -103,13 +104,13 @@ module _ (text : List ℕ) (at : ℕ) (sheet : List ℕ) where
       unfolding lines_in
       opened = rw (some_records (drop next text) (omega (arith, more, length-drop next text))) refl
 
-      pub lines_many : lines ≡ most_lines → few_lines (left at) ≡ none
+      pub lines_many : lines ≡ most_lines → few_lines (left at) ≡ None
       lines_many e = rw (so_far.whole, opened) (too_many so_far.done (lines_in others) (line_in here) (so_far.count ∙ e))
 
-      pub lines_broken : line_in here ≡ none → few_lines (left at) ≡ none
+      pub lines_broken : line_in here ≡ None → few_lines (left at) ≡ None
       lines_broken e = rw (so_far.whole, opened, e, before_none so_far.done) refl
 
-      pub lines_step : (lines ≡ most_lines → ⊥) → (numbers : List ℕ) (after : ℕ) (sheet'' : List ℕ) → line_in here ≡ some numbers
+      pub lines_step : (lines ≡ most_lines → ⊥) → (numbers : List ℕ) (after : ℕ) (sheet'' : List ℕ) → line_in here ≡ Some numbers
           → others ≡ records_of (drop after text) → sheet'' ≡ laid (sheet_size lines) (line_bytes numbers) sheet' → LinesSoFar sheet'' after (lines + 1)
       lines_step other numbers after sheet'' is next-record put =
           let place : sheet_size lines ≡ sheet_header_size + length (lines_bytes so_far.done) = omega (arith, lines_size so_far.done, so_far.count) in
@@ -124,6 +125,13 @@ module _ (text : List ℕ) (at : ℕ) (sheet : List ℕ) where
             whole = so_far.whole ∙ rw (opened, is, next-record) (before_one so_far.done numbers (left after));
           }
 
+    -- behind the last line that has room the text ends, or there are too many
+    pub lines_end : lines ≡ most_lines → LinesFound text at sheet (then_some (leb (length text) next) most_lines) sheet'
+    lines_end e =
+        either_way (leb (length text) next)
+        (λ t. rw t (rw e at (lines_done (leb-true (length text) next t))))
+        (λ t. rw t (lines_many (leb-false (length text) next t) e))
+
 -- ---- the header's three numbers
 
 -- a number that is 0 is not at least 1
@@ -131,24 +139,22 @@ least : (n : ℕ) → leb 1 n ≡ not (eqb n 0)
 least zero = refl
 least (suc n) = rw (le-leb 1 (suc n) (omega arith), ne_eqb (suc n) 0 (λ e. omega (arith, e))) refl
 
-none_is_zero : (h : List ℕ) → length h ≡ 3 → none_zero h ≡ not ((eqb (get_or h 0 0) 0 || eqb (get_or h 1 0) 0) || eqb (get_or h 2 0) 0)
-none_is_zero [] e = absurd (omega (arith, e))
-none_is_zero (a ∷ []) e = absurd (omega (arith, e))
-none_is_zero (a ∷ b ∷ []) e = absurd (omega (arith, e))
-none_is_zero (a ∷ b ∷ c ∷ []) e = rw (least a, least b, least c) (all_three (eqb a 0) (eqb b 0) (eqb c 0))
-  where
-    all_three : (x y z : Bool) → (not x && (not y && (not z && true))) ≡ not ((x || y) || z)
-    all_three true y z = refl
-    all_three false true z = refl
-    all_three false false true = refl
-    all_three false false false = refl
-none_is_zero (a ∷ b ∷ c ∷ d ∷ h) e = absurd (omega (arith, e))
+neither : (x y : Bool) → (not x && not y) ≡ not (x || y)
+neither true y = refl
+neither false y = refl
+
+abbrev pub is_zero : (n : ℕ) → Bool
+is_zero n = eqb n 0
+
+none_is_zero : (h : List ℕ) → none_zero h ≡ not (list_any is_zero h)
+none_is_zero [] = refl
+none_is_zero (n ∷ h) = rw (least n, none_is_zero h) (neither (is_zero n) (list_any is_zero h))
 
 -- ---- the sheet
 
 -- a text that is too long, or has no header
 module _ (text : List ℕ) where
-  pub too_long : most_bytes < length text → typed_sheet text ≡ none
+  pub too_long : most_bytes < length text → typed_sheet text ≡ None
   unfolding typed_sheet
   too_long l = rw (lt-leb (length text) most_bytes l) refl
 
@@ -159,46 +165,46 @@ module _ (text : List ℕ) where
   rest = following (pieces false text).records
 
   -- a text of no bytes has no header
-  no_text : header_in (record_in (pieces false [])) ≡ none
+  no_text : header_in (record_in (pieces false [])) ≡ None
   unfolding pieces numbers_in field_number content_of is_quoted every number_in is_numeral
   no_text = refl
 
-  pub no_header : header_in first ≡ none → typed_sheet text ≡ none
+  pub no_header : header_in first ≡ None → typed_sheet text ≡ None
   unfolding typed_sheet
   no_header e = either_way (leb (length text) most_bytes) (λ l. rw l (go text refl)) (λ l. rw l refl)
     where
-      go : (t : List ℕ) → text ≡ t → sheet_in (records_of text) ≡ none
+      go : (t : List ℕ) → text ≡ t → sheet_in (records_of text) ≡ None
       go [] same = rw (same, no_records) refl
       go (b ∷ t) same = rw (some_records text (omega (arith, ap length same)), e) refl
 
-  module _ (short : length text ≤ most_bytes) (header : List ℕ) (said : header_in first ≡ some header) where
+  module _ (short : length text ≤ most_bytes) (header : List ℕ) (said : header_in first ≡ Some header) where
     some_text : 0 < length text
     some_text = go text refl
       where
         go : (t : List ℕ) → text ≡ t → 0 < length text
-        go [] same = let z : none ≡ some header = sym no_text ∙ rw same at said in clash (cc)
+        go [] same = let z : None ≡ Some header = sym no_text ∙ rw same at said in clash (cc)
         go (b ∷ t) same = omega (arith, ap length same)
 
-    pub typed_by : typed_sheet text ≡ sheet_typed (some header) (few_lines (lines_in rest))
+    pub typed_by : typed_sheet text ≡ sheet_typed (Some header) (few_lines (lines_in rest))
     unfolding typed_sheet
     typed_by = rw (le-leb (length text) most_bytes short, some_records text some_text, said) refl
 
     -- whether one of the header's numbers is 0
     abbrev pub has_zero : Bool
-    has_zero = (eqb (get_or header 0 0) 0 || eqb (get_or header 1 0) 0) || eqb (get_or header 2 0) 0
+    has_zero = list_any is_zero header
 
     none_zero_lem : none_zero header ≡ not has_zero
-    none_zero_lem = none_is_zero header (numbers_size 3 header_fields first header said)
+    none_zero_lem = none_is_zero header
 
-    pub zero_header : has_zero ≡ true → typed_sheet text ≡ none
+    pub zero_header : has_zero ≡ true → typed_sheet text ≡ None
     zero_header z = typed_by ∙ go (few_lines (lines_in rest))
       where
-        go : (o : Option (List (List ℕ))) → sheet_typed (some header) o ≡ none
-        go none = refl
-        go (some lines) = rw (none_zero_lem, z) refl
+        go : (o : Option (List (List ℕ))) → sheet_typed (Some header) o ≡ None
+        go None = refl
+        go (Some lines) = rw (none_zero_lem, z) refl
 
     module _ (at : ℕ) (next : rest ≡ records_of (drop at text)) where
-      pub bad_lines : few_lines (lines_in (records_of (drop at text))) ≡ none → typed_sheet text ≡ none
+      pub bad_lines : few_lines (lines_in (records_of (drop at text))) ≡ None → typed_sheet text ≡ None
       bad_lines e = typed_by ∙ rw (next, e) refl
 
       -- the header is laid in front of the lines

@@ -3,13 +3,13 @@ use Prim.Native.Nat.{ℕ, suc, ◌+◌, ◌-◌, ◌*◌, ◌≤◌, ◌<◌}
 use mathlib.Core.Path.{◌≡◌, refl, sym, ap, ◌∙◌}
 use mathlib.Core.Bool.{true}
 use mathlib.Core.List.{List, [], ◌∷◌, ◌++◌, append_assoc, append-nil}
-use mathlib.Core.Option.{none}
+use Rattle.std.specs.Prelude.{Option, None, Some, Ok, Err, ok_or}
 use native.Mathlib.Numerals.{add-one}
 use native.Mathlib.Omega.{arith}
 use lib.ListN.{length, length-append}
 use Rattle.headers.specs.Sheet.{line_count, most_lines}
 use Rattle.answers.specs.declared.answer.LineFault.TheVariants.{BadReading}
-use Rattle.answers.specs.declared.answer.Outcome.TheVariants.{RefusedLine}
+use Rattle.answers.specs.declared.answer.Refusal.TheVariants.{Line as OnLine}
 use Rattle.numerals.specs.Laid.{laid}
 use Rattle.numerals.proofs.LawLaid.{laid_more, laid_none, length_laid}
 use Rattle.search.proofs.LawTest.{clash}
@@ -17,7 +17,6 @@ use Rattle.desk.specs.Sheet.{sheet_ok}
 use Rattle.desk.specs.Line.{line_of}
 use Rattle.desk.specs.Found.{sheet_line}
 use Rattle.desk.specs.declared.line.Line.{Line}
-use Rattle.desk.specs.declared.line.SheetLine.TheVariants.{There, NotThere}
 use Rattle.desk.proofs.LawFound.{right_line}
 use Rattle.text.specs.Typed.{line_width}
 use Rattle.text.specs.Convert.{Made, Gives, Refuses}
@@ -33,6 +32,16 @@ no_front (Refuses refusal) = refl
 two_fronts : (a b : List ℕ) (made : Made) → in_front a (in_front b made) ≡ in_front (a ++ b) made
 two_fronts a b (Gives bytes) = ap Gives (sym (append_assoc a b bytes))
 two_fronts a b (Refuses refusal) = refl
+
+-- ---- a line's answer, or else the refusal
+
+pub some_or : {T E : Type 0} (o : Option T) (refusal : E) (x : T) → Ok x ≡ ok_or o refusal → o ≡ Some x
+some_or None refusal x h = clash (cc)
+some_or (Some y) refusal x h = cc
+
+pub none_or : {T E : Type 0} (o : Option T) (refusal said : E) → Err said ≡ ok_or o refusal → (o ≡ None) × (refusal ≡ said)
+none_or None refusal said h = (refl, cc)
+none_or (Some y) refusal said h = clash (cc)
 
 module _ (s : List ℕ) (at : ℕ) (text : List ℕ) where
   abbrev all : Made
@@ -84,7 +93,7 @@ module _ (s : List ℕ) (at : ℕ) (text : List ℕ) where
           let one : line_count s - i ≡ suc (line_count s - (i + 1)) = omega (arith, more) in
           rw (one, add-one i) refl
 
-      pub written_bad : all_taken (used_of (line_of s i)) ≡ none → all ≡ Refuses (RefusedLine BadReading (i + 1))
+      pub written_bad : all_taken (used_of (line_of s i)) ≡ None → all ≡ Refuses (OnLine BadReading (i + 1))
       unfolding lines_text
       written_bad bad = so_far.whole ∙ rw (opened, bad) refl
 
@@ -106,8 +115,8 @@ module _ (s : List ℕ) (at : ℕ) (text : List ℕ) where
 
 module _ (s : List ℕ) (i : ℕ) (ok : sheet_ok s ≡ true) (inside : i < line_count s) where
   -- a right sheet has every line that it counts
-  pub never : {A : Type 0} → sheet_line s i ≡ NotThere → A
-  never gone = let z : There (line_of s i) ≡ NotThere = sym (right_line s i inside ok) ∙ gone in clash (cc)
+  pub never : {A : Type 0} → sheet_line s i ≡ None → A
+  never gone = let z : Some (line_of s i) ≡ None = sym (right_line s i inside ok) ∙ gone in clash (cc)
 
-  pub line_is : (line : Line) → sheet_line s i ≡ There line → line ≡ line_of s i
-  line_is line there = let z : There line ≡ There (line_of s i) = sym there ∙ right_line s i inside ok in cc
+  pub line_is : (line : Line) → sheet_line s i ≡ Some line → line ≡ line_of s i
+  line_is line there = let z : Some line ≡ Some (line_of s i) = sym there ∙ right_line s i inside ok in cc

@@ -9,12 +9,24 @@ use lib.Dec.{leb, ltb, eqb}
 use lib.ListN.{length, drop, get_or, drop_of_length-le, length-append}
 use lib.Seq.{drop-cons}
 use borrow.Author.Tests.{eqb-true, eqb-false}
+use Rattle.std.specs.Ordering.{nat_cmp, is_le, is_lt}
+use Rattle.std.proofs.lemmas.Bool.Decides.{nat_tests}
 use Rattle.search.proofs.LawTest.{either_way}
 use Rattle.numerals.specs.Laid.{laid, Lays, Puts}
 use Rattle.numerals.specs.Numeral.{most_decimal}
 use Rattle.numerals.proofs.LawLaid.{laid_more, laid_none, length_laid}
 use Rattle.text.specs.Written.{most_field, most_record, separator, record_text}
 use Rattle.text.specs.Inner.{field_text, separator_text, texts_from}
+
+-- whether the field is one of those with places
+is_upto : (a b : ℕ) → is_le (nat_cmp a b) ≡ leb a b
+is_upto a b = grind (arith, nat_tests)
+
+is_below : (a b : ℕ) → is_lt (nat_cmp a b) ≡ ltb a b
+is_below a b = grind (arith, nat_tests)
+
+pub in_range : (from until j : ℕ) → (is_le (nat_cmp from j) && is_lt (nat_cmp j until)) ≡ (leb from j && ltb j until)
+in_range from until j = rw (is_upto from j, is_below j until) refl
 
 -- ---- a record
 

@@ -1,9 +1,10 @@
 -- A sheet that was written and read again accounts as it did: a used reading is taken as the same thousandths, and no other is looked at.
+use Rattle.std.specs.Prelude.{Ok, Result, ⊤}
 use Prim.Native.Nat.{ℕ, zero, suc, ◌+◌, ◌^◌, ◌<◌}
 use mathlib.Core.Path.{◌≡◌, refl, sym, ap, ◌∙◌}
 use mathlib.Core.Bool.{true}
 use mathlib.Core.List.{List, [], ◌∷◌}
-use mathlib.Core.Option.{some}
+use Rattle.std.specs.Prelude.{Some}
 use native.Mathlib.Nat.{add-zero, zero-add}
 use native.Mathlib.Omega.{arith}
 use lib.Ieee.{Float, binary64, of_bits}
@@ -11,16 +12,15 @@ use lib.ListN.{length, get_or}
 use borrow.Author.Tests.{ne_eqb}
 use Rattle.little.specs.Read.{AreBytes}
 use Rattle.amounts.specs.Reading.{parts_per_unit, taken_of, parts_bits}
-use Rattle.amounts.specs.declared.reading.Taken.{Taken}
-use Rattle.amounts.specs.declared.reading.Taken.TheVariants.{Is}
+use Rattle.amounts.specs.declared.reading.ReadingFault.{ReadingFault}
 use Rattle.amounts.proofs.LawReading.{taken_most}
 use Rattle.amounts.proofs.LawParts.{parts_back}
 use Rattle.headers.specs.Sheet.{SheetHeader, sheet_header, line_count}
 use Rattle.headers.specs.Unit.{unit_of, unit_of_sheet}
-use Rattle.answers.specs.declared.answer.Outcome.{Outcome}
+use Rattle.answers.specs.declared.answer.Refusal.{Refusal}
 use Rattle.shares.specs.Share.{most_hours, most_kilowatts, most_kilowatt_hours, hours_of, kw_of, kwh_of, share_by}
 use Rattle.shares.specs.declared.share.Reading.{Reading}
-use Rattle.shares.specs.declared.share.Reading.TheVariants.{None, Hours, Energy, Throughout}
+use Rattle.shares.specs.declared.share.Reading.TheVariants.{None as NoReading, Hours, Energy, Throughout}
 use Rattle.shares.proofs.LawShare.{hours_alike, energy_alike}
 use Rattle.desk.specs.Key.{key_from}
 use Rattle.desk.specs.Sheet.{sheet_ok}
@@ -46,20 +46,20 @@ use Rattle.text.proofs.LawBack.{line_given, sheet_given, lines_count, written_re
 -- ---- a reading
 
 -- x and the binary64 of the thousandths that it is taken as are taken alike
-taken_again : (most : ℕ) → most < 2 ^ 32 → (x : Float) (t : ℕ) → taken_of parts_per_unit most x ≡ Is t
+taken_again : (most : ℕ) → most < 2 ^ 32 → (x : Float) (t : ℕ) → taken_of parts_per_unit most x ≡ Ok t
     → taken_of parts_per_unit most x ≡ taken_of parts_per_unit most (of_bits binary64 (parts_bits t))
 taken_again most few x t e = e ∙ sym (parts_back most t few (taken_most parts_per_unit most t x e))
 
-taken_last : {P : Type 0} (last : Taken) (ts : List ℕ) → all_taken (last ∷ []) ≡ some ts → ((t : ℕ) → last ≡ Is t → t ∷ [] ≡ ts → P) → P
+taken_last : {P : Type 0} (last : Result ℕ ReadingFault) (ts : List ℕ) → all_taken (last ∷ []) ≡ Some ts → ((t : ℕ) → last ≡ Ok t → t ∷ [] ≡ ts → P) → P
 unfolding all_taken
-taken_last last ts h then = taken_first last [] ts h (λ t rest is none all. let empty : [] ≡ rest = cc in then t is (rw empty all))
+taken_last last ts h then = taken_first last [] ts h (λ t rest is over all. let empty : [] ≡ rest = cc in then t is (rw empty all))
 
 -- of a line that looks at its reading
 module _ (line : Line) (treated : line.technique ≡ 0 → ⊥) where
-  reading_again : (reading : Reading) (ts : List ℕ) → all_taken (readings_of reading) ≡ some ts
+  reading_again : (reading : Reading) (ts : List ℕ) → all_taken (readings_of reading) ≡ Some ts
       → (rule : ℕ) → share_by (reading_said (line_numbers (with_reading line reading) ts)) rule ≡ share_by reading rule
   unfolding line_numbers padded reading_bits used_readings
-  reading_again None ts h rule = refl
+  reading_again NoReading ts h rule = refl
   reading_again Throughout ts h rule = refl
   reading_again (Hours run production) ts h rule =
       taken_first (hours_of run) _ ts h
@@ -80,7 +80,7 @@ module _ (line : Line) (treated : line.technique ≡ 0 → ⊥) where
 
 -- ---- a line
 
-line_again : (from : Sources) (line : Line) (ts : List ℕ) → all_taken (used_of line) ≡ some ts
+line_again : (from : Sources) (line : Line) (ts : List ℕ) → all_taken (used_of line) ≡ Some ts
     → account_of from (with_reading line (reading_said (line_numbers line ts))) ≡ account_of from line
 line_again from line ts h =
     account_alike from line (reading_said (line_numbers line ts)) line.reading
@@ -116,7 +116,7 @@ module _ (s : List ℕ) (fits : NumbersFit (sheet_numbers s)) where
   unfolding sheet_numbers
   unit_again = sym (ap (λ (h : SheetHeader). unit_of h.shown_unit) header_again)
 
-  outcome_again : (from : Sources) (i : ℕ) → i < line_count s → (ts : List ℕ) → all_taken (used_of (line_of s i)) ≡ some ts
+  outcome_again : (from : Sources) (i : ℕ) → i < line_count s → (ts : List ℕ) → all_taken (used_of (line_of s i)) ≡ Some ts
       → line_outcome (lent from s) i ≡ line_outcome (lent from (binary_sheet (sheet_numbers s))) i
   unfolding line_outcome sheet_numbers
   outcome_again from i h ts taken =
@@ -125,7 +125,7 @@ module _ (s : List ℕ) (fits : NumbersFit (sheet_numbers s)) where
       let said = binary_line_said (sheet_numbers s) fits i there in
       sym (rw (said, numbers, line_said_lem s i ts) (line_again from (line_of s i) ts taken))
 
-  module _ (right : sheet_ok s ≡ true) (taken : (i : ℕ) → i < line_count s → (ts : List ℕ) × (all_taken (used_of (line_of s i)) ≡ some ts)) where
+  module _ (right : sheet_ok s ≡ true) (taken : (i : ℕ) → i < line_count s → (ts : List ℕ) × (all_taken (used_of (line_of s i)) ≡ Some ts)) where
     each_again : (from : Sources) (i : ℕ) → i < line_count s → line_outcome (lent from s) i ≡ line_outcome (lent from (binary_sheet (sheet_numbers s))) i
     each_again from i h = let used = taken i h in outcome_again from i h used.0 used.1
 
@@ -143,7 +143,7 @@ module _ (s : List ℕ) (fits : NumbersFit (sheet_numbers s)) where
 -- ---- what was written
 
 lines_taken : (s : List ℕ) (k i n : ℕ) (w : List ℕ) → lines_text k (lines_from s i n) ≡ Gives w
-    → (j : ℕ) → j < n → (ts : List ℕ) × (all_taken (used_of (line_of s (i + j))) ≡ some ts)
+    → (j : ℕ) → j < n → (ts : List ℕ) × (all_taken (used_of (line_of s (i + j))) ≡ Some ts)
 unfolding lines_from
 lines_taken s k i zero w e j h = absurd (omega arith)
 lines_taken s k i (suc n) w e zero h =
@@ -155,10 +155,10 @@ lines_taken s k i (suc n) w e (suc j) h =
     rw next (lines_taken s (k + 1) (suc i) n first.front.rest first.front.gives j (omega arith))
 
 module _ (s text : List ℕ) (bytes : AreBytes s) (written : text_of_sheet s ≡ Gives text) where
-  numbers_again : typed_sheet text ≡ some (sheet_numbers s)
+  numbers_again : typed_sheet text ≡ Some (sheet_numbers s)
   numbers_again = (written_read s text bytes written).1
 
-  taken_each : (i : ℕ) → i < line_count s → (ts : List ℕ) × (all_taken (used_of (line_of s i)) ≡ some ts)
+  taken_each : (i : ℕ) → i < line_count s → (ts : List ℕ) × (all_taken (used_of (line_of s i)) ≡ Some ts)
   taken_each i h =
       let given = sheet_given s text written in
       rw zero-add at (lines_taken s 0 0 (line_count s) given.front.rest given.front.gives i h)
@@ -176,7 +176,7 @@ module _ (s text : List ℕ) (bytes : AreBytes s) (written : text_of_sheet s ≡
       }
 
   -- so the desk answers and leaves for the text what it does for the sheet
-  pub declared_again : (from : Sources) (exact shown : List ℕ) (r : Outcome) (exact' shown' : List ℕ) → Declared (lent from s) exact shown r exact' shown'
+  pub declared_again : (from : Sources) (exact shown : List ℕ) (r : Result ⊤ Refusal) (exact' shown' : List ℕ) → Declared (lent from s) exact shown r exact' shown'
       → DeclaredText from text exact shown r exact' shown'
   declared_again from exact shown r exact' shown' promised =
       rw read_again.gives (read_again.alike.declared from exact shown r exact' shown' promised)

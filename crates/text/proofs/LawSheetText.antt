@@ -6,8 +6,8 @@ use mathlib.Core.List.{List, ◌++◌}
 use native.Mathlib.Omega.{arith}
 use lib.ListN.{length, length-append}
 use Rattle.answers.specs.declared.answer.FileFault.TheVariants.{SheetMalformed}
-use Rattle.answers.specs.declared.answer.LineFault.TheVariants.{BadReading}
-use Rattle.answers.specs.declared.answer.Outcome.TheVariants.{RefusedFile, RefusedLine}
+use Rattle.answers.specs.declared.answer.Refusal.{Refusal}
+use Rattle.answers.specs.declared.answer.Refusal.TheVariants.{File}
 use Rattle.numerals.specs.Laid.{laid, Puts}
 use Rattle.numerals.proofs.LawLaid.{laid_more}
 use Rattle.desk.specs.Sheet.{sheet_ok}
@@ -18,7 +18,7 @@ use Rattle.text.specs.Written.{most_record, record_text, lines_from, header_text
 use Rattle.text.specs.Inner.{texts_from, LinesPut, header_numbers}
 
 module _ (s : List ℕ) where
-  pub wrong_sheet : sheet_ok s ≡ false → text_of_sheet s ≡ Refuses (RefusedFile SheetMalformed)
+  pub wrong_sheet : sheet_ok s ≡ false → text_of_sheet s ≡ Refuses (File SheetMalformed)
   unfolding text_of_sheet
   wrong_sheet e = rw e refl
 
@@ -28,10 +28,9 @@ module _ (s : List ℕ) where
   header_fields_lem = refl
 
   module _ (ok : sheet_ok s ≡ true) where
-    pub bad_line : (line : ℕ) → lines_text 0 (lines_from s 0 (line_count s)) ≡ Refuses (RefusedLine BadReading line)
-        → text_of_sheet s ≡ Refuses (RefusedLine BadReading line)
+    pub bad_line : (refusal : Refusal) → lines_text 0 (lines_from s 0 (line_count s)) ≡ Refuses refusal → text_of_sheet s ≡ Refuses refusal
     unfolding text_of_sheet
-    bad_line line e = rw (ok, e) refl
+    bad_line refusal e = rw (ok, e) refl
 
     module _ (text : List ℕ) (at : ℕ) (text₁ : List ℕ)
         (header : Puts (record_text (texts_from 0 0 0 (header_numbers s))) (most_record (length header_fields)) 0 text at text₁)

@@ -1,7 +1,8 @@
 -- What is read again from a sheet's text accounts as the sheet does.
+use Rattle.std.specs.Prelude.{Result, ⊤}
 use Rattle.std.specs.Prelude.{ℕ, ◌≡◌, List}
 use Rattle.headers.specs.Sheet.{line_count}
-use Rattle.answers.specs.declared.answer.Outcome.{Outcome}
+use Rattle.answers.specs.declared.answer.Refusal.{Refusal}
 use Rattle.desk.specs.Lent.{Sources, lent}
 use Rattle.desk.specs.Account.{line_outcome}
 use Rattle.desk.specs.Table.{table_of, answer_of}
@@ -17,9 +18,9 @@ pub record AccountsAlike (s s' : List ℕ) : Type 0 where
   -- by all sources the same answer for every room, the same exact table, and the same shown one left in every result
   pub answer : (from : Sources) (room : ℕ) → answer_of (lent from s) room ≡ answer_of (lent from s') room
   pub exact : (from : Sources) → exact_table from s ≡ exact_table from s'
-  pub shown : (from : Sources) (r : Outcome) (cells : List ℕ) → shown_after r (lent from s) cells ≡ shown_after r (lent from s') cells
+  pub shown : (from : Sources) (r : Result ⊤ Refusal) (cells : List ℕ) → shown_after r (lent from s) cells ≡ shown_after r (lent from s') cells
   -- so what the desk promises to answer and to leave for the one, it promises for the other
-  pub declared : (from : Sources) (exact shown : List ℕ) (r : Outcome) (exact' shown' : List ℕ)
+  pub declared : (from : Sources) (exact shown : List ℕ) (r : Result ⊤ Refusal) (exact' shown' : List ℕ)
       → Declared (lent from s) exact shown r exact' shown'
       → Declared (lent from s') exact shown r exact' shown'
 

@@ -1,13 +1,11 @@
 -- "Sheets typed in a spreadsheet": a text as numbers. The first record has the medium, the pollutant and the shown unit, then one record a
 -- line has its fields in the order of the binary sheet. Of a line's last fields those that are left off count as 0.
 use Rattle.std.specs.Prelude.{ℕ, zero, suc, ◌-◌, Bool, true, cond, ◌&&◌, List, [], ◌∷◌, leb, eqb, length}
-use Rattle.std.proofs.Math.Option.{Option, none, some}
+use Rattle.std.specs.Prelude.{Option, None, Some}
 use Rattle.headers.specs.House.{most_bytes}
 use Rattle.headers.specs.Sheet.{most_lines}
 use Rattle.numerals.specs.Numeral.{most_digits}
 use Rattle.numerals.specs.Typed.{number_in, decimal_in}
-use Rattle.numerals.specs.declared.typed.Typed.{Typed}
-use Rattle.numerals.specs.declared.typed.Typed.TheVariants.{Is, Malformed}
 use Rattle.records.specs.Records.{content_of, records_of}
 
 -- ---- what a field takes: whole numbers up to this one, or a reading, for which 0 stands
@@ -66,25 +64,25 @@ abbrev pub first_grade : ℕ
 first_grade = 13
 
 -- the number of a field; of a reading its thousandths
-unfoldable pub field_number : (takes : ℕ) (field : List ℕ) → Typed
+unfoldable pub field_number : (takes : ℕ) (field : List ℕ) → Option ℕ
 field_number takes field = cond (eqb takes a_reading) (decimal_in (content_of field)) (number_in most_digits takes (content_of field))
 
 -- ---- the numbers of records, where nothing is malformed
 
-abbrev pub followed : (first : Typed) (others : Option (List ℕ)) → Option (List ℕ)
-followed Malformed others = none
-followed (Is n) none = none
-followed (Is n) (some ns) = some (n ∷ ns)
+abbrev pub followed : (first : Option ℕ) (others : Option (List ℕ)) → Option (List ℕ)
+followed None others = None
+followed (Some n) None = None
+followed (Some n) (Some ns) = Some (n ∷ ns)
 
 -- what is left off counts as 0, unless it is needed
 abbrev pub left_off : (needed : ℕ) (others : Option (List ℕ)) → Option (List ℕ)
-left_off zero others = followed (Is 0) others
-left_off (suc needed) others = none
+left_off zero others = followed (Some 0) others
+left_off (suc needed) others = None
 
 -- a field for each that is asked for, of which the first so many are needed, and no other
 unfoldable pub numbers_in : (needed : ℕ) (takes : List ℕ) (fields : List (List ℕ)) → Option (List ℕ)
-numbers_in needed [] [] = some []
-numbers_in needed [] (field ∷ fields) = none
+numbers_in needed [] [] = Some []
+numbers_in needed [] (field ∷ fields) = None
 numbers_in needed (t ∷ takes) [] = left_off needed (numbers_in (needed - 1) takes [])
 numbers_in needed (t ∷ takes) (field ∷ fields) = followed (field_number t field) (numbers_in (needed - 1) takes fields)
 
@@ -96,12 +94,12 @@ abbrev pub line_in : (fields : List (List ℕ)) → Option (List ℕ)
 line_in fields = numbers_in needed_fields line_fields fields
 
 abbrev pub before : (line : Option (List ℕ)) (others : Option (List (List ℕ))) → Option (List (List ℕ))
-before none others = none
-before (some line) none = none
-before (some line) (some lines) = some (line ∷ lines)
+before None others = None
+before (Some line) None = None
+before (Some line) (Some lines) = Some (line ∷ lines)
 
 unfoldable pub lines_in : (records : List (List (List ℕ))) → Option (List (List ℕ))
-lines_in [] = some []
+lines_in [] = Some []
 lines_in (fields ∷ records) = before (line_in fields) (lines_in records)
 
 -- a sheet as it was typed: the header's numbers, and each line's
@@ -115,19 +113,19 @@ none_zero (n ∷ numbers) = leb 1 n && none_zero numbers
 
 -- at most 128 lines
 abbrev pub few_lines : (lines : Option (List (List ℕ))) → Option (List (List ℕ))
-few_lines none = none
-few_lines (some lines) = cond (leb (length lines) most_lines) (some lines) none
+few_lines None = None
+few_lines (Some lines) = cond (leb (length lines) most_lines) (Some lines) None
 
 -- no number of the header is 0
 abbrev pub sheet_typed : (header : Option (List ℕ)) (lines : Option (List (List ℕ))) → Option TypedSheet
-sheet_typed none lines = none
-sheet_typed (some header) none = none
-sheet_typed (some header) (some lines) = cond (none_zero header) (some (record { header = header; lines = lines })) none
+sheet_typed None lines = None
+sheet_typed (Some header) None = None
+sheet_typed (Some header) (Some lines) = cond (none_zero header) (Some (record { header = header; lines = lines })) None
 
 abbrev pub sheet_in : (records : List (List (List ℕ))) → Option TypedSheet
-sheet_in [] = none
+sheet_in [] = None
 sheet_in (header ∷ lines) = sheet_typed (header_in header) (few_lines (lines_in lines))
 
 -- the sheet that a text of at most 65,536 bytes is
 unfoldable pub typed_sheet : (text : List ℕ) → Option TypedSheet
-typed_sheet text = cond (leb (length text) most_bytes) (sheet_in (records_of text)) none
+typed_sheet text = cond (leb (length text) most_bytes) (sheet_in (records_of text)) None

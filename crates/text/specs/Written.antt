@@ -1,17 +1,17 @@
 -- The text of a binary sheet, byte for byte: no quotes, no needless leading zeros, every record ends in a carriage return and a line feed.
+use Rattle.std.specs.Prelude.{Err, Ok, Result}
 use Rattle.std.specs.Prelude.{ℕ, zero, suc, ◌+◌, ◌*◌, cond, List, [], ◌∷◌, ◌++◌, eqb, length}
-use Rattle.std.proofs.Math.Option.{Option, none, some}
+use Rattle.std.specs.Prelude.{Option, None, Some}
 use Rattle.headers.specs.Sheet.{sheet_header, line_count, most_lines}
 use Rattle.numerals.specs.Numeral.{numeral, decimal_numeral, most_decimal}
 use Rattle.records.specs.Records.{comma, carriage_return, line_feed}
-use Rattle.amounts.specs.declared.reading.Taken.{Taken}
-use Rattle.amounts.specs.declared.reading.Taken.TheVariants.{Is, Over, Bad}
+use Rattle.amounts.specs.declared.reading.ReadingFault.{ReadingFault}
 use Rattle.shares.specs.Share.{hours_of, kw_of, kwh_of}
 use Rattle.shares.specs.declared.share.Reading.{Reading}
-use Rattle.shares.specs.declared.share.Reading.TheVariants.{None, Hours, Energy, Throughout}
+use Rattle.shares.specs.declared.share.Reading.TheVariants.{None as NoReading, Hours, Energy, Throughout}
 use Rattle.answers.specs.declared.answer.FileFault.TheVariants.{SheetMalformed}
 use Rattle.answers.specs.declared.answer.LineFault.TheVariants.{BadReading}
-use Rattle.answers.specs.declared.answer.Outcome.TheVariants.{RefusedFile, RefusedLine}
+use Rattle.answers.specs.declared.answer.Refusal.TheVariants.{File, Line as OnLine}
 use Rattle.desk.specs.Sheet.{sheet_ok}
 use Rattle.desk.specs.Line.{line_of}
 use Rattle.desk.specs.declared.line.Line.{Line}
@@ -47,32 +47,31 @@ most_sheet_text = most_record (length header_fields) + most_record line_width * 
 -- ---- a line
 
 abbrev pub kind_number : Reading → ℕ
-kind_number None = 0
+kind_number NoReading = 0
 kind_number (Hours run production) = 1
 kind_number (Energy e) = 2
 kind_number Throughout = 3
 
 -- the readings that the kind uses, as the rules take them
-abbrev pub readings_of : Reading → List Taken
-readings_of None = []
+abbrev pub readings_of : Reading → List (Result ℕ ReadingFault)
+readings_of NoReading = []
 readings_of (Hours run production) = hours_of run ∷ hours_of production ∷ []
 readings_of (Energy e) = kwh_of e.kwh ∷ kw_of e.kw ∷ hours_of e.hours ∷ []
 readings_of Throughout = []
 
 -- technique 0 uses none
-abbrev pub used_of : Line → List Taken
+abbrev pub used_of : Line → List (Result ℕ ReadingFault)
 used_of line = cond (eqb line.technique 0) [] (readings_of line.reading)
 
 -- the thousandths of each, unless one is bad or over its limit
 abbrev pub ahead : (t : ℕ) (others : Option (List ℕ)) → Option (List ℕ)
-ahead t none = none
-ahead t (some ts) = some (t ∷ ts)
+ahead t None = None
+ahead t (Some ts) = Some (t ∷ ts)
 
-unfoldable pub all_taken : List Taken → Option (List ℕ)
-all_taken [] = some []
-all_taken (Over ∷ readings) = none
-all_taken (Bad ∷ readings) = none
-all_taken (Is t ∷ readings) = ahead t (all_taken readings)
+unfoldable pub all_taken : List (Result ℕ ReadingFault) → Option (List ℕ)
+all_taken [] = Some []
+all_taken (Err fault ∷ readings) = None
+all_taken (Ok t ∷ readings) = ahead t (all_taken readings)
 
 -- three fields: those used with three places, and `0` for each of the others
 unfoldable pub reading_texts : (fields : ℕ) (thousandths : List ℕ) → List (List ℕ)
@@ -114,8 +113,8 @@ in_front bytes (Refuses refusal) = Refuses refusal
 
 -- the first line with a used reading that is bad or over its limit is refused (9); lines count from 1
 abbrev pub with_line : (i : ℕ) (line : Line) (readings : Option (List ℕ)) (others : Made) → Made
-with_line i line none others = Refuses (RefusedLine BadReading (i + 1))
-with_line i line (some ts) others = in_front (record_text (line_texts line ts)) others
+with_line i line None others = Refuses (OnLine BadReading (i + 1))
+with_line i line (Some ts) others = in_front (record_text (line_texts line ts)) others
 
 unfoldable pub lines_text : (i : ℕ) (lines : List Line) → Made
 lines_text i [] = Gives []
@@ -124,4 +123,4 @@ lines_text i (line ∷ lines) = with_line i line (all_taken (used_of line)) (lin
 unfoldable pub text_of_sheet : (s : List ℕ) → Made
 text_of_sheet s =
     cond (sheet_ok s) (in_front (record_text (header_texts s)) (lines_text 0 (lines_from s 0 (line_count s))))
-    (Refuses (RefusedFile SheetMalformed))
+    (Refuses (File SheetMalformed))

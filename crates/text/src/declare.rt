@@ -1,67 +1,52 @@
 // The desk on a text sheet.
 ghost use Rattle.std.specs.Prelude.{◌≡◌};
-ghost use Rattle.desk.specs.Lent.{sources};
+ghost use Rattle.desk.specs.Lent.{contents};
 ghost use Rattle.text.specs.Declare.{sources_first, NoSheet, DeclaredText};
 
-use super::convert::Converted;
 use super::read::{MOST_SHEET, sheet_from_text};
-use answers::answer::Outcome;
+use answers::answer::Refusal;
 use desk::declare::declare;
+use desk::lent::Sources;
 use desk::table::by_sources;
-use little::cells::clear;
 use little::part::part;
 
 // Rules 1 and 13 come before what is wrong with the text.
-pub fn sources_first(own: &[u8], book: &[u8], fugitive: &[u8], refusal: Outcome) -> Outcome
-    ensures { result ≡ sources_first (sources own.now book.now fugitive.now) refusal }
+pub fn sources_first(sources: Sources<'_>, next: Result<(), Refusal>) -> Result<(), Refusal>
+    ensures { result ≡ sources_first (contents sources.entry) next }
 {
-    let told = by_sources(own, book, fugitive);
-    if let Outcome::Accepted = told {
-        return refusal;
-    }
-    told
+    by_sources(sources)?;
+    next
 }
 
 fn no_sheet(
-    own: &[u8],
-    book: &[u8],
-    fugitive: &[u8],
-    refusal: Outcome,
+    sources: Sources<'_>,
+    refusal: Refusal,
     exact: &mut [u64],
     shown: &mut [u64],
-) -> Outcome
-    ensures { NoSheet (sources own.now book.now fugitive.now) refusal
+) -> Result<(), Refusal>
+    ensures { NoSheet (contents sources.entry) refusal
         exact.old shown.old result exact.new shown.new }
 {
-    clear(exact);
-    clear(shown);
-    sources_first(own, book, fugitive, refusal)
+    exact.fill(0);
+    shown.fill(0);
+    sources_first(sources, Err(refusal))
 }
 
 // Figures, or one refusal, for books, a fugitive table and a text of any content and results of any size: 1, 13, 12, 3, then the lines.
 // The sheet is read into bytes of its own, which always have room. On refusal every cell of both results is zero; on acceptance the cells
 // past the tables keep their values.
 pub fn declare_text(
-    own: &[u8],
-    book: &[u8],
-    fugitive: &[u8],
+    sources: Sources<'_>,
     text: &[u8],
     exact: &mut [u64],
     shown: &mut [u64],
-) -> Outcome
-    ensures { DeclaredText (sources own.now book.now fugitive.now) text.now
+) -> Result<(), Refusal>
+    ensures { DeclaredText (contents sources.entry) text.now
         exact.old shown.old result exact.new shown.new }
 {
     let mut sheet = [0u8; MOST_SHEET];
     match sheet_from_text(text, &mut sheet) {
-        Converted::Bytes(bytes) => declare(
-            own,
-            book,
-            fugitive,
-            part(&sheet, 0, bytes),
-            exact,
-            shown,
-        ),
-        Converted::Refused(refusal) => no_sheet(own, book, fugitive, refusal, exact, shown),
+        Ok(bytes) => declare(sources, part(&sheet, 0, bytes), exact, shown),
+        Err(refusal) => no_sheet(sources, refusal, exact, shown),
     }
 }

@@ -8,16 +8,17 @@ ghost use Rattle.text.specs.Typed.{header_fields, line_width};
 ghost use Rattle.text.specs.Written.{most_record, record_text, text_of_sheet};
 ghost use Rattle.text.specs.Inner.{field_text, separator_text, texts_from, LineWritten, LinesWritten};
 
-use super::convert::{Converted, finished, refused};
+use super::convert::{finished, refused};
 use super::field::{FIRST_READING, HEADER_FIELDS, LINE_FIELDS};
-use super::line::{Readings, kind_number, used_by};
-use answers::answer::{FileFault, LineFault, Outcome};
-use desk::line::{Line, SheetLine, sheet_line};
+use super::line::{kind_number, used_by};
+use answers::answer::{FileFault, LineFault, Refusal};
+use desk::line::{Line, sheet_line};
 use desk::sheet::sheet_ok;
 use headers::sheet::{MOST_LINES, line_count};
 use little::read::{byte_at, u32_at};
 use numerals::bytes::lay;
 use numerals::number::{MOST_DECIMAL, decimal, thousandths};
+use std::ops::Range;
 
 // The bytes of a field and of what follows it, at most.
 const MOST_FIELD: usize = MOST_DECIMAL + 2;
@@ -25,20 +26,6 @@ const MOST_FIELD: usize = MOST_DECIMAL + 2;
 // The bytes of a written text, at most.
 pub const MOST_SHEET_TEXT: usize = MOST_FIELD * HEADER_FIELDS
     + MOST_FIELD * LINE_FIELDS * MOST_LINES;
-
-// Where a line's record ends in the text; or a used reading is bad or over its limit.
-#[derive(Clone, Copy)]
-enum LineText {
-    Ends(usize),
-    BadReading,
-}
-
-// Where the last line's record ends; or the line, counted from 1, that has such a reading.
-#[derive(Clone, Copy)]
-enum LinesText {
-    Ends(usize),
-    BadReading(u16),
-}
 
 // With three places, or as a whole number.
 fn lay_field(text: &mut [u8], at: usize, number: u64, places: bool) -> usize
@@ -61,30 +48,26 @@ fn lay_separator(text: &mut [u8], at: usize, last: bool) -> usize
     }
 }
 
-// The numbers of a record; those from `from` to before `until` have three places.
-fn lay_record(text: &mut [u8], at: usize, numbers: &[u64], from: usize, until: usize) -> usize
+// The numbers of a record; those at these places of it have three decimal places.
+fn lay_record(text: &mut [u8], at: usize, numbers: &[u64], with_places: Range<usize>) -> usize
     requires { at + most_record (length numbers.now) ≤ reach }
-    ensures { Puts (record_text (texts_from from until 0 numbers.now)) (most_record (length numbers.now))
-        at text.old result text.new }
+    ensures { Puts (record_text (texts_from with_places.start with_places.end 0 numbers.now))
+        (most_record (length numbers.now)) at text.old result text.new }
 {
     let mut next = at;
-    let mut j = 0;
-    while j < numbers.len() {
-        next += lay_field(text, next, numbers[j], (from <= j) & (j < until));
-        j += 1;
-        next += lay_separator(text, next, j == numbers.len());
+    for (j, number) in numbers.iter().enumerate() {
+        next += lay_field(text, next, *number, with_places.contains(&j));
+        next += lay_separator(text, next, j + 1 == numbers.len());
     }
     next
 }
 
-fn lay_line(text: &mut [u8], at: usize, line: Line) -> LineText
+// Where the line's record ends in the text, if no used reading is bad or over its limit.
+fn lay_line(text: &mut [u8], at: usize, line: Line) -> Option<usize>
     requires { at + most_record line_width ≤ reach }
     ensures { LineWritten line at text.old result text.new }
 {
-    let reading = line.reading;
-    let Readings::Used(used, a, b, c) = used_by(line.technique, reading) else {
-        return LineText::BadReading;
-    };
+    let readings = used_by(line.technique, line.reading)?;
     let numbers = [
         line.key.industry as u64,
         line.key.product as u64,
@@ -93,41 +76,37 @@ fn lay_line(text: &mut [u8], at: usize, line: Line) -> LineText
         line.key.scale as u64,
         line.technique as u64,
         line.reuse as u64,
-        kind_number(reading),
+        kind_number(line.reading),
         line.product,
         line.material,
-        a,
-        b,
-        c,
+        readings.a,
+        readings.b,
+        readings.c,
         line.grades.crushing as u64,
         line.grades.tapping as u64,
         line.grades.spill as u64,
     ];
-    LineText::Ends(lay_record(text, at, &numbers, FIRST_READING, FIRST_READING + used))
+    let used = FIRST_READING..FIRST_READING + readings.used;
+    Some(lay_record(text, at, &numbers, used))
 }
 
-// In a right sheet every line that is counted is there.
-fn lay_lines(text: &mut [u8], at: usize, sheet: &[u8]) -> LinesText
+// Where the last line's record ends; or the first line that has a bad reading. In a right sheet every line that is counted is there.
+fn lay_lines(text: &mut [u8], at: usize, sheet: &[u8]) -> Result<usize, Refusal>
     requires { (sheet_ok sheet.now ≡ true) × (at ≤ most_record (length header_fields)) }
     ensures { LinesWritten sheet.now at text.old result text.new }
 {
-    let lines = line_count(sheet);
     let mut next = at;
-    let mut i = 0;
-    while i < lines {
-        let SheetLine::There(line) = sheet_line(sheet, i) else {
-            return LinesText::Ends(next);
+    for i in 0..line_count(sheet) {
+        let Some(line) = sheet_line(sheet, i) else {
+            return Ok(next);
         };
-        let LineText::Ends(end) = lay_line(text, next, line) else {
-            return LinesText::BadReading((i + 1) as u16);
-        };
-        next = end;
-        i += 1;
+        let bad = Refusal::Line(LineFault::BadReading, (i + 1) as u16);
+        next = lay_line(text, next, line).ok_or(bad)?;
     }
-    LinesText::Ends(next)
+    Ok(next)
 }
 
-fn text_from_right(sheet: &[u8], text: &mut [u8]) -> Converted
+fn text_from_right(sheet: &[u8], text: &mut [u8]) -> Result<usize, Refusal>
     requires { sheet_ok sheet.now ≡ true }
     ensures { Converts (text_of_sheet sheet.now) text.old result text.new }
 {
@@ -136,25 +115,22 @@ fn text_from_right(sheet: &[u8], text: &mut [u8]) -> Converted
         byte_at(sheet, 7) as u64,
         u32_at(sheet, 12) as u64,
     ];
-    let at = lay_record(text, 0, &header, 0, 0);
+    let at = lay_record(text, 0, &header, 0..0);
     match lay_lines(text, at, sheet) {
-        LinesText::Ends(end) => finished(text, end),
-        LinesText::BadReading(line) => refused(
-            text,
-            Outcome::RefusedLine(LineFault::BadReading, line),
-        ),
+        Ok(end) => finished(text, end),
+        Err(refusal) => refused(text, refusal),
     }
 }
 
 // The text of a sheet of any content and size, at the start of lent bytes of any size: how many bytes it has, and the bytes past it keep
 // their values. Refused is a sheet that the desk refuses with 2; then the first line with a used reading that is bad or over its limit (9);
 // then a text that has no room (3). Every lent byte is then zero. `MOST_SHEET_TEXT` bytes always have room.
-pub fn text_from_sheet(sheet: &[u8], text: &mut [u8]) -> Converted
+pub fn text_from_sheet(sheet: &[u8], text: &mut [u8]) -> Result<usize, Refusal>
     ensures { Converts (text_of_sheet sheet.now) text.old result text.new }
 {
     if sheet_ok(sheet) {
         text_from_right(sheet, text)
     } else {
-        refused(text, Outcome::RefusedFile(FileFault::SheetMalformed))
+        refused(text, Refusal::File(FileFault::SheetMalformed))
     }
 }

@@ -7,4 +7,4 @@ pub returns : goal.returns
 returns c =
     let desk = c.declare.ensures in
     let answer = desk.demand1.answer in
-    record { answer = rw c.code.ensures (ap code_of answer); declared = rw answer at desk }
+    record { answer = rw c.outcome_code.ensures (ap code_of answer); declared = rw answer at desk }

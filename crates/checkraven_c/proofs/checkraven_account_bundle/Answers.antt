@@ -7,4 +7,4 @@ pub returns : goal.returns
 returns c =
     let desk = c.declare_bundle.ensures in
     let answer = desk.answer in
-    record { declared = rw answer at desk; answer = rw c.code.ensures (ap bundle_code answer) }
+    record { declared = rw answer at desk; answer = rw c.bundle_code.ensures (ap bundle_code answer) }

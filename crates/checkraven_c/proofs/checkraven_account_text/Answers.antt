@@ -8,4 +8,4 @@ pub returns : goal.returns
 returns c =
     let desk = c.declare_text.ensures in
     let answer = text_answer_lem _ _ _ _ _ _ _ desk in
-    record { answer = rw c.code.ensures (ap code_of answer); declared = rw answer at desk }
+    record { answer = rw c.outcome_code.ensures (ap code_of answer); declared = rw answer at desk }

@@ -7,4 +7,4 @@ pub returns : goal.returns
 returns c =
     let step = c.settling_step.ensures in
     let answer = step.answer in
-    record { answer = rw c.code.ensures (ap step_code answer); taken = rw answer at step }
+    record { answer = rw c.step_code.ensures (ap step_code answer); taken = rw answer at step }

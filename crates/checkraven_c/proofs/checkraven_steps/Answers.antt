@@ -7,4 +7,4 @@ pub returns : goal.returns
 returns c =
     let steps = c.settling_steps.ensures in
     let answer = steps.answer in
-    record { answer = rw c.code.ensures (ap count_code answer); counted = rw answer at steps }
+    record { answer = rw c.count_code.ensures (ap count_code answer); counted = rw answer at steps }

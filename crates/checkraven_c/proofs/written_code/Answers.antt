@@ -2,10 +2,10 @@
 use Rattle.checkraven_c.specs.TextCode.{written_code}
 use Rattle.checkraven_c.proofs.written_code.Goals as goal
 
-pub returns-in-Bytes : goal.returns-in-Bytes
+pub returns-in-Ok : goal.returns-in-Ok
 unfolding written_code
-returns-in-Bytes c = rw c.in-Bytes.is
+returns-in-Ok c = rw c.in-Ok.is
 
-pub returns-in-Short : goal.returns-in-Short
+pub returns-in-Err : goal.returns-in-Err
 unfolding written_code
-returns-in-Short c = rw c.in-Short.is
+returns-in-Err c = rw c.in-Err.is c.code.ensures

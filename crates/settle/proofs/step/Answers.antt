@@ -6,22 +6,19 @@ use Rattle.settle.proofs.LawTable.{good_of}
 use Rattle.settle.proofs.LawAnswer.{answers_off, answers_short, answers_done}
 use Rattle.settle.proofs.step.Goals as goal
 
+pub returns-then-not-is_good : goal.returns-then-not-is_good
+returns-then-not-is_good c =
+    answers_off _ _ _ _ (sym c.is_good.ensures ∙ c.if-not-is_good.true)
+
 pub returns-then-next-cells : goal.returns-then-next-cells
 returns-then-next-cells c =
-    answers_short _ _ _ _ (sym (c.is_good.ensures c.args.marked) ∙ c.if-is_good.true) c.if-next-cells.true
-
-pub slice_bounds-step_in-end-then-is_good : goal.slice_bounds-step_in-end-then-is_good
-slice_bounds-step_in-end-then-is_good c = sym (length-take-le _ _ c.if-next-cells.false)
+    answers_short _ _ _ _ (sym c.is_good.ensures ∙ c.if-not-is_good.false) c.if-next-cells.true
 
 pub step_in-steps-requires : goal.step_in-steps-requires
 step_in-steps-requires c =
-    let h = good_of (grid c.args.unit c.args.columns c.args.rows c.args.marked) _ (sym (c.is_good.ensures c.args.marked) ∙ c.if-is_good.true) in
+    let h = good_of (grid c.args.unit c.args.columns c.args.rows c.args.marked) _ (sym c.is_good.ensures ∙ c.if-not-is_good.false) in
     record { good = h; room = length-take-le _ _ c.if-next-cells.false ∙ h.size }
 
-pub returns-else-next-cells : goal.returns-else-next-cells
-returns-else-next-cells c =
-    answers_done _ _ _ _ (sym (c.is_good.ensures c.args.marked) ∙ c.if-is_good.true) c.if-next-cells.false c.step_in-steps.ensures
-
-pub returns-else-is_good : goal.returns-else-is_good
-returns-else-is_good c =
-    answers_off _ _ _ _ (sym (c.is_good.ensures c.args.marked) ∙ c.if-is_good.false)
+pub returns : goal.returns
+returns c =
+    answers_done _ _ _ _ (sym c.is_good.ensures ∙ c.if-not-is_good.false) c.if-next-cells.false c.step_in-steps.ensures

@@ -11,8 +11,8 @@ share-fits h k = lt_of_le_of_lt (mul-le-mul h k) (lit< tt)
 pub overflow_mul-rest : goal.overflow_mul-rest
 overflow_mul-rest c = omega (arith, (wholes_most c.args.generated _ c.requires.0).1)
 
-pub overflow_mul-rest-2 : goal.overflow_mul-rest-2
-overflow_mul-rest-2 c =
+pub overflow_mul-carried : goal.overflow_mul-carried
+overflow_mul-carried c =
     let less : remnant c.args.generated c.args.efficiency ≤ whole_share = omega arith in
     record { fits = share-fits less (omega (arith, c.requires)) }
 

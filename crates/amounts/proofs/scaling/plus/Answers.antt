@@ -6,8 +6,8 @@ use Rattle.amounts.proofs.scaling.plus.Goals as goal
 pub overflow_add-result : goal.overflow_add-result
 overflow_add-result c = record { fits = room_quotient _ _ _ c.requires.2 }
 
-pub overflow_add-result-else-r-left : goal.overflow_add-result-else-r-left
-overflow_add-result-else-r-left c = record { fits = room_quotient _ _ _ c.requires.2 }
+pub overflow_add-result-else-a-left : goal.overflow_add-result-else-a-left
+overflow_add-result-else-a-left c = record { fits = room_quotient _ _ _ c.requires.2 }
 
-pub overflow_add-result-else-r-left-2 : goal.overflow_add-result-else-r-left-2
-overflow_add-result-else-r-left-2 c = record { fits = room_carried _ _ _ c.requires.2 (omega arith) }
+pub overflow_add-result-else-a-left-2 : goal.overflow_add-result-else-a-left-2
+overflow_add-result-else-a-left-2 c = record { fits = room_carried _ _ _ c.requires.2 (omega arith) }

@@ -1,34 +1,32 @@
 -- By cases on which book answers: its row, and its techniques.
-use mathlib.Core.Path.{sym, ◌∙◌}
-use Rattle.desk.specs.Lent.{sources}
+use mathlib.Core.Path.{ap, sym, ◌∙◌}
+use Rattle.std.specs.Prelude.{Some}
+use Rattle.desk.specs.Inner.{right_contents}
 use Rattle.desk.proofs.LawBooks.{own_there, published_there, own_answers, published_answers, neither_answers}
 use Rattle.desk.proofs.account.by_books.Goals as goal
 
-pub row_place-requires : goal.row_place-requires
-row_place-requires c = (c.requires.right.own, c.requires.right.book)
-
 pub by_row-requires : goal.by_row-requires
 by_row-requires c =
-    (own_there _ _ _ _ c.row_place.ensures _ c.requires.right.own c.in-InOwn.is, c.requires.admitted)
+    (own_there _ _ _ _ c.row_place.ensures _ (c.in-Some-InOwn.is ∙ ap Some c.in-Some-InOwn.field-0-is), c.requires)
 
-pub by_row-requires-in-InPublished : goal.by_row-requires-in-InPublished
-by_row-requires-in-InPublished c =
-    (published_there _ _ _ _ c.row_place.ensures _ c.requires.right.book c.in-InPublished.is, c.requires.admitted)
+pub by_row-requires-in-Some-InPublished : goal.by_row-requires-in-Some-InPublished
+by_row-requires-in-Some-InPublished c =
+    (published_there _ _ _ _ c.row_place.ensures _ (c.in-Some-InPublished.is ∙ ap Some c.in-Some-InPublished.field-0-is), c.requires)
 
-pub returns-in-InOwn : goal.returns-in-InOwn
-returns-in-InOwn c =
-    let from = sources c.args.own.now c.args.b.now c.args.f.now in
-    let answers = own_answers from _ _ (sym c.row_place.ensures.eq ∙ c.in-InOwn.is) in
+pub returns-in-Some-InOwn : goal.returns-in-Some-InOwn
+returns-in-Some-InOwn c =
+    let from = right_contents c.args.sources in
+    let answers = own_answers from _ _ (sym c.row_place.ensures.eq ∙ (c.in-Some-InOwn.is ∙ ap Some c.in-Some-InOwn.field-0-is)) in
     rw (answers.0, answers.1) c.by_row.ensures
 
-pub returns-in-InPublished : goal.returns-in-InPublished
-returns-in-InPublished c =
-    let from = sources c.args.own.now c.args.b.now c.args.f.now in
-    let answers = published_answers from _ _ (sym c.row_place.ensures.eq ∙ c.in-InPublished.is) in
-    rw (answers.0, answers.1) c.by_row-in-InPublished.ensures
+pub returns-in-Some-InPublished : goal.returns-in-Some-InPublished
+returns-in-Some-InPublished c =
+    let from = right_contents c.args.sources in
+    let answers = published_answers from _ _ (sym c.row_place.ensures.eq ∙ (c.in-Some-InPublished.is ∙ ap Some c.in-Some-InPublished.field-0-is)) in
+    rw (answers.0, answers.1) c.by_row-in-Some-InPublished.ensures
 
-pub returns-in-InNeither : goal.returns-in-InNeither
-returns-in-InNeither c =
-    let from = sources c.args.own.now c.args.b.now c.args.f.now in
-    let answers = neither_answers from _ (sym c.row_place.ensures.eq ∙ c.in-InNeither.is) in
+pub returns-in-None : goal.returns-in-None
+returns-in-None c =
+    let from = right_contents c.args.sources in
+    let answers = neither_answers from _ (sym c.row_place.ensures.eq ∙ c.in-None.is) in
     rw (answers.0, answers.1)

@@ -1,4 +1,4 @@
--- The row that was found in a good book is a good row.
+-- The row that was found in a right book is a good row.
 use Rattle.desk.proofs.LawRow.{row_below, hit_good, hit_at}
 use Rattle.desk.proofs.LawBook.{good_row_in, row_fields}
 use Rattle.desk.proofs.account.by_row.Goals as goal
@@ -6,8 +6,9 @@ use Rattle.desk.proofs.account.by_row.Goals as goal
 pub row_at-requires : goal.row_at-requires
 row_at-requires c =
     let there = c.requires.0 in
+    let right = c.args.book.right in
     let below = row_below _ _ _ there.found in
-    (there.small, good_row_in _ there.good _ below, row_fields _ there.good _ below)
+    (there.small, good_row_in _ right _ below, row_fields _ right _ below)
 
 pub by_dust-requires : goal.by_dust-requires
 by_dust-requires c =
@@ -15,14 +16,10 @@ by_dust-requires c =
     let admitted = c.requires.1 in
     record {
       able = record {
-        good = rw (c.technique_block.ensures, c.row_at.ensures.eq) (hit_good _ _ _ there.good (hit_at _ _ _ there.found));
+        good = rw (c.technique_block.ensures, c.row_at.ensures.eq) (hit_good _ _ _ c.args.book.right (hit_at _ _ _ there.found));
         small = c.row_at.ensures.small;
         activity = admitted.activity;
         reuse = admitted.reuse;
       };
-      fugitive = admitted.fugitive;
       graded = admitted.graded;
     }
-
-pub returns : goal.returns
-returns c = rw (← c.technique_block.ensures, ← c.row_at.ensures.eq) c.by_dust.ensures

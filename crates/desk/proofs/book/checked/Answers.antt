@@ -7,9 +7,3 @@ pub fill_runs-requires : goal.fill_runs-requires
 fill_runs-requires c =
     let size = c.technique_count.ensures.eq in
     (omega (arith, header_lies _ c.requires.0), rw (size, c.technique_block.ensures) (block_size _ c.requires.0), omega arith)
-
-pub rows_ok-requires : goal.rows_ok-requires
-rows_ok-requires c =
-    let block = c.technique_block in
-    let count = c.technique_count in
-    (c.requires.0, rw (← block.ensures, ← count.ensures.eq) c.fill_runs.ensures)

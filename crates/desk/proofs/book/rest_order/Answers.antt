@@ -6,10 +6,10 @@ use Rattle.desk.proofs.book.rest_order.Goals as goal
 
 pub returns-then-medium-k : goal.returns-then-medium-k
 unfolding key_from
-returns-then-medium-k c = rw (← c.byte_in-medium.ensures.eq) (c.order_of.ensures ∙ first_differ _ _ _ _ c.if-medium-k.true)
+returns-then-medium-k c = rw (← c.byte_in-medium.ensures.eq) (c.cmp.ensures ∙ first_differ _ _ _ _ c.if-medium-k.true)
 
 pub returns : goal.returns
 unfolding key_from
 returns c =
     rw (← c.byte_in-medium.ensures.eq, ← c.byte_in.ensures.eq)
-    (c.order_of-2.ensures ∙ last_decides _ _ ∙ first_same _ _ _ _ c.if-medium-k.false)
+    (c.cmp-2.ensures ∙ last_decides _ _ ∙ first_same _ _ _ _ c.if-medium-k.false)

@@ -1,13 +1,18 @@
 -- The codes decide, or leave it to the medium and the pollutant.
-use mathlib.Core.Path.{sym, ◌∙◌}
+use mathlib.Core.Path.{sym, ap, ◌∙◌}
+use borrow.Author.Rules.{rules}
+use Rattle.std.specs.declared.cmp.Ordering.{Ordering}
+use Rattle.std.specs.Ordering.{ordering_then}
+use Rattle.search.specs.InnerOrder.{list_order}
+use Rattle.search.proofs.LawOrder.{then_told}
+use Rattle.desk.specs.Book.{key_at}
+use Rattle.desk.specs.Inner.{rest_fields}
 use Rattle.desk.proofs.LawOrder.{row_stands}
 use Rattle.desk.proofs.book.row_order.Goals as goal
 
-pub returns-in-Before : goal.returns-in-Before
-returns-in-Before c = rw (row_stands, sym c.codes_order.ensures ∙ c.in-Before.is)
-
-pub returns-in-Same : goal.returns-in-Same
-returns-in-Same c = rw (row_stands, sym c.codes_order.ensures ∙ c.in-Same.is) c.rest_order.ensures
-
-pub returns-in-After : goal.returns-in-After
-returns-in-After c = rw (row_stands, sym c.codes_order.ensures ∙ c.in-After.is)
+pub returns : goal.returns
+returns c =
+    let rest = list_order (rest_fields (key_at c.args.b.now c.args.at)) (rest_fields c.args.k) in
+    then_told _ _ rest _ c.then_with.ensures (λ p. search rules)
+    ∙ ap (λ (o : Ordering). ordering_then o rest) c.codes_order.ensures
+    ∙ sym (row_stands _ _ _ _)

@@ -7,23 +7,20 @@ use Rattle.desk.proofs.dust.dust_of.Goals as goal
 
 pub entry_index-requires : goal.entry_index-requires
 entry_index-requires c =
-    (c.requires.0, graded_key c.args.line (sym c.is_given.ensures ∙ c.if-is_given.true) c.requires.1)
+    graded_key c.args.line (sym c.is_given.ensures ∙ c.if-not-is_given.false) c.requires.0
 
-pub dust_by-requires : goal.dust_by-requires
-dust_by-requires c = (rw c.in-At.is at c.entry_index.ensures.below, c.requires.2)
-
-pub returns-in-At : goal.returns-in-At
+pub returns-then-not-is_given : goal.returns-then-not-is_given
 unfolding dust_of
-returns-in-At c =
-    let found = sym c.entry_index.ensures.eq ∙ c.in-At.is in
-    rw (← c.is_given.ensures, c.if-is_given.true, found) c.dust_by.ensures
+returns-then-not-is_given c = rw (← c.is_given.ensures, c.if-not-is_given.true) (record { eq = refl; small = omega arith })
 
-pub returns-in-Nothing : goal.returns-in-Nothing
+pub returns-in_err-i : goal.returns-in_err-i
 unfolding dust_of
-returns-in-Nothing c =
-    let found = sym c.entry_index.ensures.eq ∙ c.in-Nothing.is in
-    rw (← c.is_given.ensures, c.if-is_given.true, found) (record { eq = refl; small = tt })
+returns-in_err-i c =
+    let found = sym c.entry_index.ensures.eq ∙ c.in_err-i.was in
+    rw (c.from_residual.ensures, ← c.is_given.ensures, c.if-not-is_given.false, found) (record { eq = refl; small = tt })
 
-pub returns-else-is_given : goal.returns-else-is_given
+pub returns : goal.returns
 unfolding dust_of
-returns-else-is_given c = rw (← c.is_given.ensures, c.if-is_given.false) (record { eq = refl; small = omega arith })
+returns c =
+    let found = sym c.entry_index.ensures.eq ∙ c.in_ok-i.was in
+    rw (← c.is_given.ensures, c.if-not-is_given.false, found) c.dust_by.ensures

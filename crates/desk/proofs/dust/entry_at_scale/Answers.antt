@@ -14,32 +14,32 @@ loop-low-init c =
 pub codes_order-requires : goal.codes_order-requires
 codes_order-requires c =
     let l = c.loop-low in
-    let inside = right_entry_in _ c.requires.0 (l.low + (l.high - l.low) / 2) (omega arith) in
+    let inside = right_entry_in _ c.args.table.right (l.low + (l.high - l.low) / 2) (omega arith) in
     omega (arith, inside, c.entry_offset-from.ensures.eq)
 
-pub loop-low-preserved-in-Before : goal.loop-low-preserved-in-Before
-loop-low-preserved-in-Before c =
+pub loop-low-preserved-in-Less : goal.loop-low-preserved-in-Less
+loop-low-preserved-in-Less c =
     let l = c.loop-low in
     let m = l.low + (l.high - l.low) / 2 in
     let start = c.entry_offset-from.ensures.eq in
-    let stands = at_scale_stands _ m _ _ c.requires.1 start (sym c.codes_order.ensures ∙ c.in-Before.is) in
-    (omega arith, l.invariant.1, l.invariant.2, entries_passed _ c.requires.0 _ m (omega arith) stands, l.invariant.4)
+    let stands = at_scale_stands _ m _ _ c.requires start (sym c.codes_order.ensures ∙ c.in-Less.is) in
+    (omega arith, l.invariant.1, l.invariant.2, entries_passed _ c.args.table.right _ m (omega arith) stands, l.invariant.4)
 
-pub returns-in-Same : goal.returns-in-Same
-returns-in-Same c =
+pub returns-in-Equal : goal.returns-in-Equal
+returns-in-Equal c =
     let l = c.loop-low in
     let m = l.low + (l.high - l.low) / 2 in
     let start = c.entry_offset-from.ensures.eq in
-    let stands = at_scale_stands _ m _ _ c.requires.1 start (sym c.codes_order.ensures ∙ c.in-Same.is) in
-    record { eq = entry_here _ c.requires.0 _ m (omega arith) stands; below = omega arith }
+    let stands = at_scale_stands _ m _ _ c.requires start (sym c.codes_order.ensures ∙ c.in-Equal.is) in
+    record { eq = entry_here _ c.args.table.right _ m (omega arith) stands; below = omega arith }
 
 pub loop-low-preserved : goal.loop-low-preserved
 loop-low-preserved c =
     let l = c.loop-low in
     let m = l.low + (l.high - l.low) / 2 in
     let start = c.entry_offset-from.ensures.eq in
-    let stands = at_scale_stands _ m _ _ c.requires.1 start (sym c.codes_order.ensures ∙ c.in-After.is) in
-    (omega arith, omega arith, omega arith, l.invariant.3, entries_past _ c.requires.0 _ m (omega arith) stands)
+    let stands = at_scale_stands _ m _ _ c.requires start (sym c.codes_order.ensures ∙ c.in-Greater.is) in
+    (omega arith, omega arith, omega arith, l.invariant.3, entries_past _ c.args.table.right _ m (omega arith) stands)
 
 pub returns : goal.returns
 returns c =

@@ -2,8 +2,8 @@
 use Prim.Native.Nat.{ℕ, ◌-◌, ◌≤◌, ◌<◌}
 use mathlib.Core.Path.{◌≡◌}
 use mathlib.Core.Bool.{false}
+use Rattle.std.specs.Prelude.{None}
 use Rattle.search.specs.First.{first}
-use Rattle.search.specs.declared.found.Found.TheVariants.{Nothing}
 use Rattle.fugitive.specs.Table.{entry_count}
 use Rattle.desk.specs.Dust.{entry_has}
 use Rattle.desk.specs.Inner.{at_scale, counted}
@@ -12,10 +12,10 @@ use Rattle.desk.proofs.dust.entry_at_scale.Given as goal
 abbrev pub invariant-loop-low : goal.invariant-loop-low
 invariant-loop-low l =
     (l.low ≤ l.high)
-    × (l.high ≤ entry_count l.f)
+    × (l.high ≤ entry_count l.table.bytes.now)
     × (l.high < counted)
-    × (first l.low (entry_has l.f (at_scale l.k l.scale)) ≡ Nothing)
-    × ((j : ℕ) → l.high ≤ j → j < entry_count l.f → entry_has l.f (at_scale l.k l.scale) j ≡ false)
+    × (first l.low (entry_has l.table.bytes.now (at_scale l.k l.scale)) ≡ None)
+    × ((j : ℕ) → l.high ≤ j → j < entry_count l.table.bytes.now → entry_has l.table.bytes.now (at_scale l.k l.scale) j ≡ false)
 
 abbrev pub decreases-loop-low : goal.decreases-loop-low
 decreases-loop-low l = l.high - l.low

@@ -1,37 +1,32 @@
-use Prim.Native.Nat.{ℕ}
-use mathlib.Core.Path.{ap, sym, ◌∙◌}
+-- Each entry's test is the definition's, and they are as many as the header counts.
+use Prim.Native.Nat.{ℕ, ◌+◌, ◌*◌, ◌<◌}
+use mathlib.Core.Path.{◌≡◌, refl, ap, ◌∙◌}
 use native.Mathlib.Omega.{arith}
 use borrow.Author.Rules.{rules}
+use Rattle.std.proofs.Common.{tests, Fits, w64}
+use Rattle.fugitive.specs.Entry.{entry_size}
+use Rattle.fugitive.specs.Table.{entry_start}
+use Rattle.std.proofs.lemmas.Iterator.{YieldsList-from_range, serves_from_Range}
+use Rattle.search.proofs.LawTest.{all_of_range}
 use Rattle.search.specs.Test.{all}
-use Rattle.search.proofs.LawTest.{all_start, all_step, all_done}
+use Rattle.desk.specs.Inner.{counted, EntryIn}
 use Rattle.desk.specs.Entries.{entry_rises}
-use Rattle.desk.proofs.LawBook.{all_stopped, entry_in}
+use Rattle.desk.proofs.LawBook.{entry_in}
 use Rattle.desk.proofs.entries.entries_ok.Goals as goal
 
-pub loop-i-init : goal.loop-i-init
-loop-i-init c = (search rules, all_start _, omega (arith, c.entry_offset-at.ensures.eq))
-
-pub entry_rises-requires : goal.entry_rises-requires
-entry_rises-requires c =
-    let l = c.loop-i in
-    let inside = entry_in _ c.requires l.i (omega (arith, c.entry_count-entries.ensures.eq)) in
-    (omega (arith, l.invariant.2, inside), l.invariant.2)
-
-pub overflow_add-at : goal.overflow_add-at
-overflow_add-at c =
-    let l = c.loop-i in
-    omega (arith, l.invariant.2, c.loop-i-test.true, c.entry_count-entries.ensures.small, c.entry_offset-at.ensures)
-
-pub loop-i-preserved : goal.loop-i-preserved
-loop-i-preserved c =
-    let l = c.loop-i in
-    (search rules, all_step _ _ l.invariant.1 (sym c.if-entry_rises.true ∙ c.entry_rises.ensures), omega (arith, l.invariant.2))
-
-pub returns-else-entry_rises : goal.returns-else-entry_rises
-returns-else-entry_rises c =
-    sym (all_stopped _ _ c.loop-i.i (omega (arith, c.entry_count-entries.ensures.eq)) (sym c.entry_rises.ensures ∙ c.if-entry_rises.false))
+pub all-requires-clause-callable : goal.all-requires-clause-callable
+all-requires-clause-callable c =
+    serves_from_Range (λ x q k. search (rules, tests))
+    (λ i low high.
+    let at = c.entry_offset-from.result + entry_size * i in
+    let small : i < counted = omega (arith, c.entry_count.ensures.small) in
+    let product : Fits w64 (entry_size * i) = omega arith in
+    let sum : Fits w64 at = omega (arith, c.entry_offset-from.ensures.small) in
+    let same : at ≡ entry_start c.args.f.now i = omega (arith, c.entry_offset-from.ensures.eq) in
+    let inside : EntryIn c.args.f.now at = rw same (entry_in _ c.requires i (omega (arith, c.entry_count.ensures.eq))) in
+    search rules)
 
 pub returns : goal.returns
 returns c =
-    let f = c.args.f.now in
-    all_done _ (c.loop-i.invariant.0, c.loop-i.invariant.1) c.loop-i-test.false ∙ ap (λ (n : ℕ). all n (entry_rises f)) c.entry_count-entries.ensures.eq
+    all_of_range (entry_rises c.args.f.now) _ _ _ _ c.all.ensures.ran (YieldsList-from_range 0 _ _ refl (omega arith)) (λ x b q k. search (rules, tests))
+    ∙ ap (λ (n : ℕ). all n (entry_rises c.args.f.now)) c.entry_count.ensures.eq

@@ -1,32 +1,13 @@
 -- The entry before stands one entry's size before this one.
 use mathlib.Core.Path.{sym, ◌∙◌}
-use native.Mathlib.Omega.{arith}
 use borrow.Author.Tests.{eq-eqb}
 use Rattle.desk.specs.Entries.{entry_rises}
 use Rattle.desk.proofs.LawOrder.{entry_rises_by}
 use Rattle.desk.proofs.entries.entry_rises.Goals as goal
 
-pub overflow_sub-at : goal.overflow_sub-at
-overflow_sub-at c = omega (arith, c.requires.1, c.if-i-eq0.false)
-
-pub codes_order-requires : goal.codes_order-requires
-codes_order-requires c = omega (arith, c.requires.0, c.requires.1, c.if-i-eq0.false)
-
 pub returns-then-i-eq0 : goal.returns-then-i-eq0
 unfolding entry_rises
 returns-then-i-eq0 c = rw (eq-eqb _ _ c.if-i-eq0.true)
 
-pub returns-in-Before : goal.returns-in-Before
-returns-in-Before c =
-    let stands = sym c.codes_order.ensures ∙ c.in-Before.is in
-    entry_rises_by _ _ _ _ c.if-i-eq0.false c.requires.1 c.key_from-key.ensures stands
-
-pub returns-in-Same : goal.returns-in-Same
-returns-in-Same c =
-    let stands = sym c.codes_order.ensures ∙ c.in-Same.is in
-    entry_rises_by _ _ _ _ c.if-i-eq0.false c.requires.1 c.key_from-key.ensures stands
-
-pub returns-in-After : goal.returns-in-After
-returns-in-After c =
-    let stands = sym c.codes_order.ensures ∙ c.in-After.is in
-    entry_rises_by _ _ _ _ c.if-i-eq0.false c.requires.1 c.key_from-key.ensures stands
+pub returns : goal.returns
+returns c = c.is_lt.ensures ∙ entry_rises_by _ _ _ _ c.if-i-eq0.false c.requires.1 c.key_from-key.ensures (sym c.codes_order.ensures)

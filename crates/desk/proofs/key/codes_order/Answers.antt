@@ -9,13 +9,13 @@ pub returns-then-industry-k : goal.returns-then-industry-k
 unfolding codes_at at_scale
 returns-then-industry-k c =
     rw (← from_start _ _ _ c.u16_in-industry.ensures.eq)
-    (c.order_of.ensures ∙ first_differ _ _ _ _ c.if-industry-k.true)
+    (c.cmp.ensures ∙ first_differ _ _ _ _ c.if-industry-k.true)
 
 pub returns-then-product-k : goal.returns-then-product-k
 unfolding codes_at at_scale
 returns-then-product-k c =
     rw (← from_start _ _ _ c.u16_in-industry.ensures.eq, ← c.u16_in-product.ensures.eq)
-    (c.order_of-then-product-k.ensures ∙ first_differ _ _ _ _ c.if-product-k.true ∙ first_same _ _ _ _ c.if-industry-k.false)
+    (c.cmp-then-product-k.ensures ∙ first_differ _ _ _ _ c.if-product-k.true ∙ first_same _ _ _ _ c.if-industry-k.false)
 
 pub returns-then-material-k : goal.returns-then-material-k
 unfolding codes_at at_scale
@@ -25,7 +25,7 @@ returns-then-material-k c =
       ← c.u16_in-product.ensures.eq,
       ← c.u16_in-material.ensures.eq,
     )
-    (c.order_of-then-material-k.ensures
+    (c.cmp-then-material-k.ensures
     ∙ first_differ _ _ _ _ c.if-material-k.true
     ∙ first_same _ _ _ _ c.if-product-k.false
     ∙ first_same _ _ _ _ c.if-industry-k.false)
@@ -39,7 +39,7 @@ returns-then-process-k c =
       ← c.u16_in-material.ensures.eq,
       ← c.u16_in-process.ensures.eq,
     )
-    (c.order_of-then-process-k.ensures
+    (c.cmp-then-process-k.ensures
     ∙ first_differ _ _ _ _ c.if-process-k.true
     ∙ first_same _ _ _ _ c.if-material-k.false
     ∙ first_same _ _ _ _ c.if-product-k.false
@@ -55,7 +55,7 @@ returns c =
       ← c.u16_in-process.ensures.eq,
       ← c.u16_in.ensures.eq,
     )
-    (c.order_of-2.ensures
+    (c.cmp-2.ensures
     ∙ last_decides _ _
     ∙ first_same _ _ _ _ c.if-process-k.false
     ∙ first_same _ _ _ _ c.if-material-k.false

@@ -5,10 +5,10 @@ use Rattle.desk.specs.Row.{row_index}
 use Rattle.desk.specs.Inner.{at_scale}
 use Rattle.desk.proofs.row.row_index.Goals as goal
 
-pub returns-in-At : goal.returns-in-At
-unfolding row_index at_scale
-returns-in-At c = or_else_found _ c.index_of.ensures c.in-At.is
-
-pub returns-in-Nothing : goal.returns-in-Nothing
+pub returns-in-Some : goal.returns-in-Some
 unfolding row_index at_scale all_scales
-returns-in-Nothing c = or_else_other c.index_of.ensures c.in-Nothing.is c.index_of-in-Nothing.ensures
+returns-in-Some c = or_else_found _ c.index_of.ensures c.in-Some.is
+
+pub returns : goal.returns
+unfolding row_index at_scale all_scales
+returns c = or_else_other c.index_of.ensures c.in_default.is c.index_of-2.ensures

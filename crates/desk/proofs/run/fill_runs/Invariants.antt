@@ -15,6 +15,3 @@ invariant-loop-k l =
     × (length l.runs ≡ length l.initial.runs)
     × (l.size ≤ runs_apart * length l.runs)
     × Filled l.t l.size l.k l.runs
-
-abbrev pub decreases-loop-k : goal.decreases-loop-k
-decreases-loop-k l = l.k

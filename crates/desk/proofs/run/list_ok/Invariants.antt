@@ -1,13 +1,8 @@
--- The invariant: the list is right exactly where the run from k on reaches its end.
-use Prim.Native.Nat.{◌-◌, ◌<◌}
+-- The invariant: the list is right exactly where what is left of it from k on is.
 use mathlib.Core.Path.{◌≡◌}
-use Rattle.desk.specs.Book.{technique_code, techniques_ok}
-use Rattle.desk.specs.InnerRun.{run_reaches}
+use Rattle.desk.specs.Book.{techniques_ok}
+use Rattle.desk.proofs.LawRun.{rest_reaches}
 use Rattle.desk.proofs.run.list_ok.Given as goal
 
 abbrev pub invariant-loop-k : goal.invariant-loop-k
-invariant-loop-k l =
-    (l.k < l.end) × (l.code ≡ technique_code l.t l.k) × (run_reaches l.t l.size l.k l.end ≡ techniques_ok l.t l.size l.first l.count)
-
-abbrev pub decreases-loop-k : goal.decreases-loop-k
-decreases-loop-k l = l.end - l.k
+invariant-loop-k l = rest_reaches l.techniques.block.now l.techniques.size l.k l.end l.before ≡ techniques_ok l.techniques.block.now l.techniques.size l.first l.count

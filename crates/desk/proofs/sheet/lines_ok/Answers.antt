@@ -1,25 +1,27 @@
-use Prim.Native.Nat.{ℕ}
-use mathlib.Core.Path.{ap, ◌∙◌}
+-- Each line's test is the definition's, and they are as many as the header counts.
+use Prim.Native.Nat.{ℕ, ◌<◌}
+use mathlib.Core.Path.{refl, ap, ◌∙◌}
 use native.Mathlib.Omega.{arith}
 use borrow.Author.Rules.{rules}
-use Rattle.search.proofs.LawTest.{all_start, all_step, all_done}
+use Rattle.std.proofs.Common.{tests}
+use Rattle.std.proofs.lemmas.Iterator.{YieldsList-from_range, serves_from_Range}
+use Rattle.search.proofs.LawTest.{all_of_range}
 use Rattle.search.specs.Test.{all}
+use Rattle.desk.specs.Inner.{counted}
 use Rattle.desk.specs.Sheet.{line_ok}
 use Rattle.desk.proofs.LawBook.{line_in_lem}
 use Rattle.desk.proofs.sheet.lines_ok.Goals as goal
 
-pub loop-i-init : goal.loop-i-init
-loop-i-init c = (search rules, all_start _)
-
-pub line_ok-ok-requires : goal.line_ok-ok-requires
-line_ok-ok-requires c =
-    let n = c.line_count-lines.ensures.eq in
-    (search rules, line_in_lem _ c.requires c.loop-i.i (omega arith))
-
-pub loop-i-preserved : goal.loop-i-preserved
-loop-i-preserved c =
-    let loop = c.loop-i in
-    (search rules, all_step _ _ loop.invariant.1 c.line_ok-ok.ensures)
+pub all-requires-clause-callable : goal.all-requires-clause-callable
+all-requires-clause-callable c =
+    serves_from_Range (λ x q k. search (rules, tests))
+    (λ i low high.
+    let few = c.line_count.ensures in
+    let small : i < counted = omega arith in
+    let inside = line_in_lem _ c.requires i (omega arith) in
+    search rules)
 
 pub returns : goal.returns
-returns c = all_done _ c.loop-i.invariant c.loop-i-test.false ∙ ap (λ (n : ℕ). all n (line_ok c.args.s.now)) c.line_count-lines.ensures.eq
+returns c =
+    all_of_range (line_ok c.args.s.now) _ _ _ _ c.all.ensures.ran (YieldsList-from_range 0 _ _ refl (omega arith)) (λ x b q k. search (rules, tests))
+    ∙ ap (λ (n : ℕ). all n (line_ok c.args.s.now)) c.line_count.ensures.eq

@@ -1,11 +1,10 @@
--- The works' own book before the published one.
-use Rattle.desk.specs.Table.{by_sources}
+-- Sources that are right are not refused.
+use mathlib.Core.Path.{sym}
+use Rattle.desk.proofs.LawTable.{sources_taken}
 use Rattle.desk.proofs.table.by_sources.Goals as goal
 
-pub returns-then-book_ok : goal.returns-then-book_ok
-unfolding by_sources
-returns-then-book_ok c = rw (← c.book_ok.ensures, c.if-book_ok.true) c.by_published.ensures
-
-pub returns-else-book_ok : goal.returns-else-book_ok
-unfolding by_sources
-returns-else-book_ok c = rw (← c.book_ok.ensures, c.if-book_ok.false)
+pub returns : goal.returns
+returns c =
+    let right = c.in_ok-right_sources.field-0 in
+    let same = rw c.in_ok-right_sources.was at c.right_sources.ensures in
+    sym (rw same at (sources_taken right))

@@ -14,27 +14,27 @@ pub join-requires : goal.join-requires
 join-requires c = (λ n e. number_most _ _ _ _ (sym c.number_in.ensures ∙ e), none_most _)
 
 pub slice_bounds-number_in-end : goal.slice_bounds-number_in-end
-slice_bounds-number_in-end c = sym (length-take-le _ _ (le_of_lt (point_below _ _ (sym c.point_in.ensures ∙ c.in-At.is))))
+slice_bounds-number_in-end c = sym (length-take-le _ _ (le_of_lt (point_below _ _ (sym c.point_in.ensures ∙ c.in-Some.is))))
 
 pub overflow_add-i : goal.overflow_add-i
-overflow_add-i c = omega (arith, point_below _ _ (sym c.point_in.ensures ∙ c.in-At.is))
+overflow_add-i c = omega (arith, point_below _ _ (sym c.point_in.ensures ∙ c.in-Some.is))
 
 pub slice_bounds-places_in-count : goal.slice_bounds-places_in-count
-slice_bounds-places_in-count c = omega (arith, point_below _ _ (sym c.point_in.ensures ∙ c.in-At.is))
+slice_bounds-places_in-count c = omega (arith, point_below _ _ (sym c.point_in.ensures ∙ c.in-Some.is))
 
 pub slice_bounds-places_in-start : goal.slice_bounds-places_in-start
-slice_bounds-places_in-start c = omega (arith, point_below _ _ (sym c.point_in.ensures ∙ c.in-At.is))
+slice_bounds-places_in-start c = omega (arith, point_below _ _ (sym c.point_in.ensures ∙ c.in-Some.is))
 
-pub join-requires-in-At : goal.join-requires-in-At
-join-requires-in-At c = (λ n e. number_most _ _ _ _ (sym c.number_in-whole.ensures ∙ e), λ n e. places_most _ _ (sym c.places_in.ensures ∙ e))
+pub join-requires-in-Some : goal.join-requires-in-Some
+join-requires-in-Some c = (λ n e. number_most _ _ _ _ (sym c.number_in-whole.ensures ∙ e), λ n e. places_most _ _ (sym c.places_in.ensures ∙ e))
 
-pub returns-in-Nothing : goal.returns-in-Nothing
-returns-in-Nothing c = c.join.ensures ∙ rw c.number_in.ensures (sym (decimal_whole _ (sym c.point_in.ensures ∙ c.in-Nothing.is)))
+pub returns-in-None : goal.returns-in-None
+returns-in-None c = c.join.ensures ∙ rw c.number_in.ensures (sym (decimal_whole _ (sym c.point_in.ensures ∙ c.in-None.is)))
 
-pub returns-in-At : goal.returns-in-At
-returns-in-At c =
+pub returns-in-Some : goal.returns-in-Some
+returns-in-Some c =
     let bytes = c.args.bytes.now in
-    let behind = c.in-At.i + 1 in
+    let behind = c.in-Some.i + 1 in
     let rest = take_all _ (drop behind bytes) (le_of_eq (length-drop behind bytes)) in
-    let at = sym c.point_in.ensures ∙ c.in-At.is in
-    c.join-in-At.ensures ∙ ap₂ joined c.number_in-whole.ensures (c.places_in.ensures ∙ ap places_in rest) ∙ sym (decimal_parts _ _ at)
+    let at = sym c.point_in.ensures ∙ c.in-Some.is in
+    c.join-in-Some.ensures ∙ ap₂ joined c.number_in-whole.ensures (c.places_in.ensures ∙ ap places_in rest) ∙ sym (decimal_parts _ _ at)

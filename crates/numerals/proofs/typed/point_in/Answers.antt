@@ -1,19 +1,14 @@
-use borrow.Author.Tests.{eq-eqb, ne_eqb}
-use Rattle.search.proofs.LawFirst.{first_start, first_more, first_here, first_done}
-use Rattle.numerals.specs.Typed.{point_in}
+-- The place that was found is the first that is a point. Assumes nothing.
 use borrow.Author.Rules.{rules}
+use borrow.Author.Tests.{tests}
+use mathlib.Core.Path.{◌≡◌}
+use Rattle.std.proofs.lemmas.Iterator.{IsFirst-from_position, YieldsList-from_slice}
+use Rattle.numerals.specs.Numeral.{point}
+use Rattle.numerals.proofs.LawDecimal.{point_found}
 use Rattle.numerals.proofs.typed.point_in.Goals as goal
 
-pub loop-i-init : goal.loop-i-init
-loop-i-init c = (search rules, first_start _)
-
-pub returns-then-bytes-i-eq-POINT : goal.returns-then-bytes-i-eq-POINT
-unfolding point_in
-returns-then-bytes-i-eq-POINT c = first_here _ _ _ c.loop-i.invariant.1 (eq-eqb _ _ c.if-bytes-i-eq-POINT.true) c.loop-i-test.true
-
-pub loop-i-preserved : goal.loop-i-preserved
-loop-i-preserved c = (search rules, first_more _ _ c.loop-i.invariant.1 (ne_eqb _ _ c.if-bytes-i-eq-POINT.false))
-
 pub returns : goal.returns
-unfolding point_in
-returns c = first_done _ c.loop-i.invariant c.loop-i-test.false
+returns c =
+    point_found _ _
+    (IsFirst-from_position _ _ _ (λ x. x ≡ point) (λ x. x ≡ point → ⊥) c.position.ensures.ran (YieldsList-from_slice c.args.bytes.now cc)
+    (λ x q k. search (rules, tests)) (λ x q k. search (rules, tests)))

@@ -1,16 +1,16 @@
--- A quoted field has at least its two quotes.
-use mathlib.Core.Path.{sym, ◌∙◌}
-use Rattle.records.specs.Records.{content_of}
-use Rattle.records.proofs.LawContent.{quoted_long}
+-- A field of fewer than two bytes is not quoted; of more, both its ends are looked at.
+use native.Mathlib.Omega.{arith}
+use Rattle.records.proofs.LawContent.{too_short, between_quotes, no_first_quote, no_last_quote}
 use Rattle.records.proofs.field.content.Goals as goal
 
-pub overflow_sub-field : goal.overflow_sub-field
-overflow_sub-field c = quoted_long _ (sym c.is_quoted.ensures ∙ c.if-is_quoted.true)
+pub returns-in-34 : goal.returns-in-34
+returns-in-34 c = between_quotes c.args.field.now c.in-34.len_at_least (omega arith) (omega arith)
 
-pub returns-then-is_quoted : goal.returns-then-is_quoted
-unfolding content_of
-returns-then-is_quoted c = rw (sym c.is_quoted.ensures ∙ c.if-is_quoted.true) c.part.ensures
+pub returns-in_default : goal.returns-in_default
+returns-in_default c = too_short c.args.field.now c.in_default.len_below
 
-pub returns-else-is_quoted : goal.returns-else-is_quoted
-unfolding content_of
-returns-else-is_quoted c = rw (sym c.is_quoted.ensures ∙ c.if-is_quoted.false)
+pub returns-in_default-2 : goal.returns-in_default-2
+returns-in_default-2 c = no_last_quote c.args.field.now c.in_default.len_at_least (λ e. omega arith)
+
+pub returns-in_default-3 : goal.returns-in_default-3
+returns-in_default-3 c = no_first_quote c.args.field.now c.in_default.len_at_least (λ e. omega arith)

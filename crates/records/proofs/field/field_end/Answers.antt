@@ -1,6 +1,6 @@
 use mathlib.Core.Path.{sym, ◌∙◌}
 use native.Mathlib.Omega.{arith}
-use Rattle.records.proofs.LawField.{field_start, end_here, goes_on, past_end}
+use Rattle.records.proofs.LawField.{field_start, end_here, goes_on, field_last}
 use Rattle.records.proofs.field.field_end.Goals as goal
 
 pub loop-i-init : goal.loop-i-init
@@ -20,6 +20,4 @@ loop-i-preserved c =
     rw (c.turned-quoted.ensures, c.byte_at.ensures.eq) (omega (arith, c.loop-i.invariant, on))
 
 pub returns : goal.returns
-returns c =
-    let past = past_end c.args.text.now c.loop-i.i c.loop-i.quoted (omega (arith, c.loop-i-test.false)) in
-    omega (arith, c.loop-i.invariant, past)
+returns c = c.max.ensures ∙ field_last _ _ _ _ c.loop-i.invariant c.loop-i-test.false c.loop-i.auto.i-end

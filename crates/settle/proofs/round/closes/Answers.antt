@@ -1,11 +1,23 @@
--- A usual unit is the unit where the two are equal, so what is asked and answered of the one is asked and answered of the other.
+use native.Mathlib.Omega.{arith}
+use native.Mathlib.Nat.{mod-lt}
+use lib.ListN.{get_or}
+use Rattle.settle.proofs.LawLoop.{closes_stop, closes_on, closes_out}
 use Rattle.settle.proofs.round.closes.Goals as goal
 
-pub returns-then-w-eq-SMALL_UNIT : goal.returns-then-w-eq-SMALL_UNIT
-returns-then-w-eq-SMALL_UNIT c = rw c.if-w-eq-SMALL_UNIT.true c.closes_by.ensures
+pub bounds-t-row : goal.bounds-t-row
+bounds-t-row c = omega (arith, c.requires.line.cells _ (mod-lt (get_or c.args.path.now c.loop-i.i 0) c.requires.wide))
 
-pub returns-then-w-eq-MIDDLE_UNIT : goal.returns-then-w-eq-MIDDLE_UNIT
-returns-then-w-eq-MIDDLE_UNIT c = rw c.if-w-eq-MIDDLE_UNIT.true c.closes_by-then-w-eq-MIDDLE_UNIT.ensures
+pub returns-then-t-row-ne0 : goal.returns-then-t-row-ne0
+returns-then-t-row-ne0 c =
+    let e = closes_stop c.args.w c.args.k c.args.t.now c.args.r c.args.path.now c.loop-i.i c.loop-i-test.true c.if-t-row-ne0.true in
+    omega (arith, c.loop-i.invariant)
 
-pub returns-then-w-eq-LARGE_UNIT : goal.returns-then-w-eq-LARGE_UNIT
-returns-then-w-eq-LARGE_UNIT c = rw c.if-w-eq-LARGE_UNIT.true c.closes_by-then-w-eq-LARGE_UNIT.ensures
+pub loop-i-preserved : goal.loop-i-preserved
+loop-i-preserved c =
+    let e = closes_on c.args.w c.args.k c.args.t.now c.args.r c.args.path.now c.loop-i.i c.loop-i-test.true c.if-t-row-ne0.false in
+    omega (arith, c.loop-i.invariant)
+
+pub returns : goal.returns
+returns c =
+    let e = closes_out c.args.w c.args.k c.args.t.now c.args.r c.args.path.now c.loop-i.i c.loop-i-test.false in
+    omega (arith, c.loop-i.invariant)

@@ -2,114 +2,87 @@ use mathlib.Core.Path.{◌≡◌, refl, sym, ap, ◌∙◌}
 use mathlib.Core.List.{List, [], ◌∷◌}
 use Prim.Native.Nat.{ℕ, suc, ◌+◌, ◌-◌, ◌*◌, ◌≤◌, ◌<◌}
 use native.Mathlib.Omega.{arith}
-use lib.ListN.{length, take, drop, length-set, length-drop}
+use borrow.Author.Rules.{rules}
+use lib.ListN.{length, take, drop, length-set, length-drop, drop_of_length-le}
 use lib.Seq.{take_all}
 use Rattle.settle.specs.Step as spec
 use Rattle.settle.specs.Table.{most_columns}
-use Rattle.settle.proofs.LawWalk.{row_in, column_passed, free_most, way_start, way_next, walk_stop, walk_on, row_line}
+use Rattle.settle.proofs.LawWalk.{row_in, column_passed, free_most, way_start, way_next, walk_stop, walk_on}
 use Rattle.settle.proofs.LawWalk.{column_line, pushing, closing, free_next, free_some}
 use Rattle.settle.proofs.round.round_from.Goals as goal
 
--- the path is as long as its place says
-path_length : (us : List ℕ) (at : ℕ) → length us ≡ most_columns → length (drop at us) ≡ most_columns - at
-path_length us at h = omega (arith, length-drop at us, h)
+-- the path of so many rows, and how many of its columns the code finds whole
+module _ (w k r entered m : ℕ) (t room : List ℕ) (size : length room ≡ most_columns) (most : entered ≤ most_columns) where
+  abbrev path : List ℕ
+  path = drop (most_columns - entered) room
 
--- what `closes` says, of the path
-closed : (w k r at m : ℕ) (t us : List ℕ) → length us ≡ most_columns → m ≡ spec.closes w k t r (take (most_columns - at) (drop at us))
-    → m ≡ spec.closes w k t r (drop at us)
-closed w k r at m t us h e = rw (take_all (most_columns - at) (drop at us) (omega (arith, path_length us at h))) at e
+  pub path_length : length path ≡ entered
+  path_length = omega (arith, length-drop (most_columns - entered) room)
 
--- the walk goes on where no column of the path closes it
-goes_on : (w k r at m : ℕ) (t us : List ℕ) → length us ≡ most_columns → m ≡ spec.closes w k t r (take (most_columns - at) (drop at us))
-    → most_columns - at ≤ m → length (drop at us) ≤ spec.closes w k t r (drop at us)
-goes_on w k r at m t us h e l = omega (arith, path_length us at h, closed w k r at m t us h e)
+  module _ (e : m ≡ spec.closes w k t r (take (most_columns - (most_columns - entered)) path)) where
+    pub closed : m ≡ spec.closes w k t r path
+    closed = rw (take_all (most_columns - (most_columns - entered)) path (omega (arith, path_length))) at e
 
-pub loop-at-init : goal.loop-at-init
-loop-at-init c =
-    let way = way_start c.args.w c.args.k c.args.n c.args.t.now c.args.i c.requires.small.wide c.requires.inside c.requires.loose in
-    (refl, omega arith, way, omega (arith, free_most c.args.k [] c.args.k, c.requires.small.narrow), refl, refl)
+    -- the walk closes the round there, or goes on
+    pub stops : m < entered → spec.closes w k t r path < length path
+    stops l = omega (arith, path_length, closed)
 
-pub closes-m-requires : goal.closes-m-requires
-closes-m-requires c =
-    let line = row_line c.requires.small c.requires.even c.loop-at.invariant.2.row in
-    record { unit = c.requires.unit; wide = c.requires.small.wide; line = line }
+    pub goes_on : entered ≤ m → length path ≤ spec.closes w k t r path
+    goes_on l = omega (arith, path_length, closed)
 
-pub overflow_add-us : goal.overflow_add-us
-overflow_add-us c = omega (arith, (row_line c.requires.small c.requires.even c.loop-at.invariant.2.row).small, c.loop-at.invariant.2.col)
+pub loop-entered-init : goal.loop-entered-init
+loop-entered-init c =
+    let way = way_start c.args.grid.unit c.args.grid.columns c.args.grid.rows c.args.t.now c.args.i c.requires.small.wide c.requires.inside c.requires.loose in
+    let most = free_most c.args.grid.columns [] c.args.grid.columns in
+    let none : drop 5 c.args.room.now ≡ [] = drop_of_length-le c.args.room.now {i = 5} (omega (arith, c.told-room)) in
+    rw none
+    (record { size = c.told-room; way = way; new = omega (arith, most, c.requires.small.narrow); walk = refl })
 
-pub bounds-us-at : goal.bounds-us-at
-bounds-us-at c = omega (arith, c.loop-at.invariant.1, c.loop-at-test.true)
-
-pub returns-then-m-old : goal.returns-then-m-old
-returns-then-m-old c =
-    let z = c.loop-at-test.true in
+pub returns-then-m-entered : goal.returns-then-m-entered
+returns-then-m-entered c =
     let a = c.args in
-    let u = c.loop-at.r * a.k + c.loop-at.c in
-    let e = closed c.args.w c.args.k c.loop-at.r c.loop-at.at c.closes-m.result c.args.t.now c.loop-at.us c.loop-at.invariant.0 c.closes-m.ensures in
-    let p = path_length c.loop-at.us c.loop-at.at c.loop-at.invariant.0 in
-    let front = closing c.loop-at.us c.loop-at.at u c.closes-m.result z (omega (arith, c.loop-at.invariant.0, c.loop-at.invariant.1)) in
-    let stop = walk_stop a.w a.k a.n a.t.now c.loop-at.at (drop c.loop-at.at c.loop-at.us) c.loop-at.r c.loop-at.c z (omega (arith, c.if-m-old.true)) in
-    record {
-      some = omega arith;
-      inside = simp length-set (omega (arith, c.if-m-old.true, c.loop-at.invariant.0));
-      cells = front ∙ ap (λ (m : ℕ). u ∷ take (suc m) (drop c.loop-at.at c.loop-at.us)) e ∙ sym stop ∙ c.loop-at.invariant.4;
-      size = simp length-set c.loop-at.invariant.0;
-    }
-
-pub seek-d-requires : goal.seek-d-requires
-seek-d-requires c =
-    let line = row_line c.requires.small c.requires.even c.loop-at.invariant.2.row in
-    record { unit = c.requires.unit; line = line; from = omega arith; passed = λ j z. absurd (omega arith) }
+    let l = c.loop-entered in
+    let z = c.loop-entered-test.true in
+    let u = l.r * a.grid.columns + l.c in
+    let m : c.by_unit-m.result ≡ spec.closes a.grid.unit a.grid.columns a.t.now l.r (take (5 - (5 - l.entered)) (drop (5 - l.entered) l.room)) = search rules in
+    let e = closed a.grid.unit a.grid.columns l.r l.entered c.by_unit-m.result a.t.now l.room l.invariant.size (omega arith) m in
+    let front = closing l.room (5 - l.entered) u c.by_unit-m.result (omega arith) (omega (arith, l.invariant.size)) in
+    let closing_here = stops a.grid.unit a.grid.columns l.r l.entered c.by_unit-m.result a.t.now l.room l.invariant.size (omega arith) m c.if-m-entered.true in
+    let stop = walk_stop a.grid.unit a.grid.columns a.grid.rows a.t.now (5 - l.entered) (drop (5 - l.entered) l.room) l.r l.c (omega arith) closing_here in
+    front ∙ ap (λ (k : ℕ). u ∷ take (suc k) (drop (5 - l.entered) l.room)) e ∙ sym stop ∙ l.invariant.walk
 
 pub seek-e-requires : goal.seek-e-requires
 seek-e-requires c =
-    let further = goes_on c.args.w c.args.k c.loop-at.r c.loop-at.at c.closes-m.result c.args.t.now c.loop-at.us c.loop-at.invariant.0 c.closes-m.ensures c.if-m-old.false in
-    let next = way_next c.requires.small.wide c.requires.even c.loop-at.invariant.2 further in
+    let a = c.args in
     let h = c.requires in
-    let top = c.loop-at.invariant.5 in
-    let d : c.seek-d.result < c.args.k = rw c.seek-d.ensures next.col in
-    let passed = column_passed h top d c.loop-at.r in
-    record { unit = h.unit; line = column_line h.small h.even d; from = omega (arith, row_in h top, c.loop-at.invariant.2.row); passed = passed }
+    let l = c.loop-entered in
+    let m : c.by_unit-m.result ≡ spec.closes a.grid.unit a.grid.columns a.t.now l.r (take (5 - (5 - l.entered)) (drop (5 - l.entered) l.room)) = search rules in
+    let further = goes_on a.grid.unit a.grid.columns l.r l.entered c.by_unit-m.result a.t.now l.room l.invariant.size (omega arith) m c.if-m-entered.false in
+    let next = way_next h.small.wide h.even l.invariant.way further in
+    let d : c.seek-d.result < a.grid.columns = rw c.seek-d.ensures next.col in
+    let passed = column_passed h refl d l.r in
+    record { unit = h.unit; line = column_line h.small h.even d; from = omega (arith, row_in h refl, l.invariant.way.row); passed = passed }
 
-pub loop-at-preserved : goal.loop-at-preserved
-loop-at-preserved c =
-    let further = goes_on c.args.w c.args.k c.loop-at.r c.loop-at.at c.closes-m.result c.args.t.now c.loop-at.us c.loop-at.invariant.0 c.closes-m.ensures c.if-m-old.false in
-    let next = way_next c.requires.small.wide c.requires.even c.loop-at.invariant.2 further in
-    let u = c.loop-at.r * c.args.k + c.loop-at.c in
-    let z = c.loop-at-test.true in
-    let e = pushing c.loop-at.us c.loop-at.at u z (omega (arith, c.loop-at.invariant.0, c.loop-at.invariant.1)) in
-    let on = walk_on _ _ _ _ c.loop-at.at (drop c.loop-at.at c.loop-at.us) c.loop-at.r c.loop-at.c z further in (
-      simp length-set c.loop-at.invariant.0,
-      omega (arith, c.loop-at.invariant.1),
-      rw (e, c.seek-e.ensures, c.seek-d.ensures) next,
-      rw e (free_next c.loop-at.invariant.2 c.loop-at.at c.loop-at.invariant.3),
-      rw (e, c.seek-e.ensures, c.seek-d.ensures) (sym on ∙ c.loop-at.invariant.4),
-      c.loop-at.invariant.5,
-    )
+pub loop-entered-preserved : goal.loop-entered-preserved
+loop-entered-preserved c =
+    let a = c.args in
+    let l = c.loop-entered in
+    let m : c.by_unit-m.result ≡ spec.closes a.grid.unit a.grid.columns a.t.now l.r (take (5 - (5 - l.entered)) (drop (5 - l.entered) l.room)) = search rules in
+    let further = goes_on a.grid.unit a.grid.columns l.r l.entered c.by_unit-m.result a.t.now l.room l.invariant.size (omega arith) m c.if-m-entered.false in
+    let next = way_next c.requires.small.wide c.requires.even l.invariant.way further in
+    let z : 0 < most_columns - l.entered = omega (arith, c.loop-entered-test.true) in
+    let u = l.r * a.grid.columns + l.c in
+    let back : most_columns - (l.entered + 1) ≡ most_columns - l.entered - 1 = omega arith in
+    let e = pushing l.room (most_columns - l.entered) u z (omega (arith, l.invariant.size)) in
+    let on = walk_on _ _ _ _ (most_columns - l.entered) (drop (most_columns - l.entered) l.room) l.r l.c z further in
+    record {
+      size = simp length-set l.invariant.size;
+      way = rw (back, e, c.seek-e.ensures, c.seek-d.ensures) next;
+      new = rw (back, e) (free_next l.invariant.way (most_columns - l.entered) l.invariant.new);
+      walk = rw (back, e, c.seek-e.ensures, c.seek-d.ensures) (sym on ∙ l.invariant.walk);
+    }
 
 pub returns : goal.returns
-returns c = let l = c.loop-at in absurd (omega (arith, free_some l.invariant.2, l.invariant.3, c.loop-at-test.false))
-
-pub nonzero_div-top : goal.nonzero_div-top
-nonzero_div-top c = let h = c.requires.small.wide in omega arith
-
-pub nonzero_rem-c : goal.nonzero_rem-c
-nonzero_rem-c c = let h = c.requires.small.wide in omega arith
-
-pub overflow_mul-us : goal.overflow_mul-us
-overflow_mul-us c = omega (arith, (row_line c.requires.small c.requires.even c.loop-at.invariant.2.row).small)
-
-pub offset_bounds-us-at-in-loop-at : goal.offset_bounds-us-at-in-loop-at
-offset_bounds-us-at-in-loop-at c = omega (arith, c.loop-at.invariant.1)
-
-pub overflow_sub-old : goal.overflow_sub-old
-overflow_sub-old c = c.loop-at.invariant.1
-
-pub overflow_add-end : goal.overflow_add-end
-overflow_add-end c = omega (arith, c.if-m-old.true, c.loop-at.invariant.1)
-
-pub overflow_add-end-then-m-old : goal.overflow_add-end-then-m-old
-overflow_add-end-then-m-old c = omega (arith, c.if-m-old.true, c.loop-at.invariant.1)
-
-pub overflow_mul-r : goal.overflow_mul-r
-overflow_mul-r c = omega (arith, (row_line c.requires.small c.requires.even c.loop-at.invariant.2.row).small)
+returns c =
+    let l = c.loop-entered in
+    absurd (omega (arith, free_some l.invariant.way, l.invariant.new, c.loop-entered-test.false))

@@ -1,16 +1,21 @@
-use mathlib.Core.Path.{refl}
+use mathlib.Core.Path.{◌≡◌, refl, ap, ◌∙◌}
+use Prim.Native.Nat.{ℕ}
+use native.Mathlib.Numerals.{add-one}
 use native.Mathlib.Omega.{arith}
-use Rattle.search.proofs.LawTest.{all_start, all_step, all_done}
+use lib.ListN.{length}
+use Rattle.search.specs.Test.{all}
 use Rattle.settle.specs.Table.{cell_fits}
 use Rattle.settle.proofs.table.cells_fit.Goals as goal
 
-pub loop-i-preserved : goal.loop-i-preserved
-unfolding cell_fits
-loop-i-preserved c =
-    (omega arith, all_step (cell_fits c.args.t.now) c.loop-i.i c.loop-i.invariant.1 refl)
+pub loop-x-init : goal.loop-x-init
+unfolding all
+loop-x-init c = refl
 
-pub loop-i-init : goal.loop-i-init
-loop-i-init c = (omega arith, all_start _)
+pub loop-x-preserved : goal.loop-x-preserved
+unfolding all cell_fits
+loop-x-preserved c = rw (add-one, c.loop-x.invariant) refl
 
 pub returns : goal.returns
-returns c = all_done _ c.loop-i.invariant c.loop-i-test.false
+returns c =
+    let e : c.loop-x.x-index ≡ length c.args.t.now = omega (arith, c.loop-x-test.false) in
+    c.loop-x.invariant ∙ ap (λ (n : ℕ). all n (cell_fits c.args.t.now)) e

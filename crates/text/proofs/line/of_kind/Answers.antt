@@ -6,12 +6,6 @@ pub returns-in-None : goal.returns-in-None
 unfolding all_taken
 returns-in-None c = rw c.in-None.is
 
-pub returns-in-Hours : goal.returns-in-Hours
-returns-in-Hours c = rw c.in-Hours.is c.of_hours.ensures
-
-pub returns-in-Energy : goal.returns-in-Energy
-returns-in-Energy c = rw c.in-Energy.is c.of_energy.ensures
-
 pub returns-in-Throughout : goal.returns-in-Throughout
 unfolding all_taken
 returns-in-Throughout c = rw c.in-Throughout.is

@@ -1,9 +1,7 @@
 -- Each record that is refused leaves no sheet; otherwise the header is laid in front of the lines.
-use mathlib.Core.Path.{refl}
+use mathlib.Core.Path.{refl, sym, ◌∙◌}
 use native.Mathlib.Omega.{arith}
-use Rattle.text.specs.Typed.{header_fields}
 use Rattle.text.proofs.LawLines.{too_long, no_header, zero_header, bad_lines, header_laid}
-use Rattle.text.proofs.LawMade.{numbers_size}
 use Rattle.text.proofs.read.lay_sheet.Goals as goal
 
 pub returns-then-text-gt-MOST_BYTES : goal.returns-then-text-gt-MOST_BYTES
@@ -12,37 +10,20 @@ returns-then-text-gt-MOST_BYTES c = too_long c.args.text.now c.if-text-gt-MOST_B
 pub read_record-requires : goal.read_record-requires
 read_record-requires c = record { same = refl; asked = omega arith }
 
-pub returns-in_default : goal.returns-in_default
-returns-in_default c = no_header c.args.text.now (rw c.in_default.is at c.read_record.ensures)
+pub returns-in_err-at : goal.returns-in_err-at
+returns-in_err-at c = rw c.from_residual.ensures (no_header c.args.text.now c.in_err-at.ensures)
 
-pub returns-then-header : goal.returns-then-header
-returns-then-header c =
-    let found = rw c.in-Next.is at c.read_record.ensures in
-    zero_header c.args.text.now (omega (arith, c.if-text-gt-MOST_BYTES.false)) _ found.0
-    c.if-header.true
+pub returns-then-contains : goal.returns-then-contains
+returns-then-contains c =
+    zero_header c.args.text.now (omega (arith, c.if-text-gt-MOST_BYTES.false)) _ c.in_ok-at.ensures.0 (sym c.contains.ensures.value ∙ c.if-contains.true)
 
-pub returns-in_default-lay_lines : goal.returns-in_default-lay_lines
-returns-in_default-lay_lines c =
-    let found = rw c.in-Next.is at c.read_record.ensures in
-    bad_lines c.args.text.now
-    (omega (arith, c.if-text-gt-MOST_BYTES.false)) _ found.0
-    c.in-Next.at found.1
-    (rw c.in_default-lay_lines.is at c.lay_lines.ensures)
-
-pub lay_header-requires : goal.lay_header-requires
-lay_header-requires c =
-    let found = rw c.in-Next.is at
-    c.read_record.ensures in
-    let lines = rw c.in-Lines.is at c.lay_lines.ensures in
-    (numbers_size 3 header_fields _ _ found.0, lines.few)
+pub returns-in_err-lines : goal.returns-in_err-lines
+returns-in_err-lines c =
+    rw c.from_residual-in_err-lines.ensures
+    (bad_lines c.args.text.now (omega (arith, c.if-text-gt-MOST_BYTES.false)) _ c.in_ok-at.ensures.0 c.in_ok-at.at c.in_ok-at.ensures.1
+    c.in_err-lines.ensures)
 
 pub returns : goal.returns
 returns c =
-    let found = rw c.in-Next.is at
-    c.read_record.ensures in
-    let lines = rw c.in-Lines.is at c.lay_lines.ensures in
-    header_laid c.args.text.now
-    (omega (arith, c.if-text-gt-MOST_BYTES.false)) _ found.0
-    c.in-Next.at found.1
-    c.if-header.false _ _ _ _ lines
-    c.lay_header.ensures
+    header_laid c.args.text.now (omega (arith, c.if-text-gt-MOST_BYTES.false)) _ c.in_ok-at.ensures.0 c.in_ok-at.at c.in_ok-at.ensures.1 (sym c.contains.ensures.value ∙ c.if-contains.false) _ _ _ _
+    c.in_ok-lines.ensures c.lay_header.ensures

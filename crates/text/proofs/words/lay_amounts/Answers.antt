@@ -7,8 +7,8 @@ use Rattle.text.proofs.words.lay_amounts.Goals as goal
 pub returns : goal.returns
 unfolding amount_bytes words_of line_words
 returns c =
-    then (from_place c.one_byte-next.ensures)
-    (then (from_place c.one_byte-next-2.ensures)
-    (then (from_place c.eight_bytes-next.ensures)
-    (then (from_place c.eight_bytes-next-2.ensures)
+    then (from_place c.lay_word-next.ensures)
+    (then (from_place c.lay_word-next-2.ensures)
+    (then (from_place c.lay_word-next-3.ensures)
+    (then (from_place c.lay_word-next-4.ensures)
     (nothing _ _))))

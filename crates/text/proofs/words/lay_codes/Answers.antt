@@ -1,32 +1,13 @@
 -- The seven codes, one after the other.
-use native.Mathlib.Omega.{arith}
-use Rattle.text.specs.Binary.{words_of, line_words}
-use Rattle.text.specs.Inner.{code_bytes}
-use Rattle.numerals.proofs.LawPuts.{from_place, nothing, then}
+use lib.ListN.{take}
+use Rattle.text.proofs.LawWords.{words_start, words_step, codes_done}
 use Rattle.text.proofs.words.lay_codes.Goals as goal
 
-pub overflow_add-next-7 : goal.overflow_add-next-7
-overflow_add-next-7 c =
-    omega (
-      arith,
-      c.requires.1,
-      c.two_bytes-next.ensures.few,
-      c.two_bytes-next-2.ensures.few,
-      c.two_bytes-next-3.ensures.few,
-      c.two_bytes-next-4.ensures.few,
-      c.two_bytes-next-5.ensures.few,
-      c.two_bytes-next-6.ensures.few,
-      c.two_bytes-next-7.ensures.few,
-    )
+pub loop-code-init : goal.loop-code-init
+loop-code-init c = words_start 2 (take 7 c.args.numbers.now) _ _
+
+pub loop-code-preserved : goal.loop-code-preserved
+loop-code-preserved c = words_step 2 (take 7 c.args.numbers.now) _ _ _ _ _ c.loop-code.invariant c.loop-code-test.true _ _ c.lay_word-next.ensures
 
 pub returns : goal.returns
-unfolding code_bytes words_of line_words
-returns c =
-    then (from_place c.two_bytes-next.ensures)
-    (then (from_place c.two_bytes-next-2.ensures)
-    (then (from_place c.two_bytes-next-3.ensures)
-    (then (from_place c.two_bytes-next-4.ensures)
-    (then (from_place c.two_bytes-next-5.ensures)
-    (then (from_place c.two_bytes-next-6.ensures)
-    (then (from_place c.two_bytes-next-7.ensures)
-    (nothing _ _)))))))
+returns c = codes_done c.args.numbers.now c.told-numbers _ _ _ _ _ c.loop-code.invariant c.loop-code-test.false c.loop-code.auto.code-index-end

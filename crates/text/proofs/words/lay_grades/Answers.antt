@@ -7,9 +7,9 @@ use Rattle.text.proofs.words.lay_grades.Goals as goal
 pub returns : goal.returns
 unfolding grade_bytes words_of line_words
 returns c =
-    then (from_place c.one_byte-next.ensures)
-    (then (from_place c.one_byte-next-2.ensures)
-    (then (from_place c.one_byte-next-3.ensures)
-    (then (from_place c.one_byte-next-4.ensures)
-    (then (from_place c.four_bytes-next.ensures)
+    then (from_place c.lay_word-next.ensures)
+    (then (from_place c.lay_word-next-2.ensures)
+    (then (from_place c.lay_word-next-3.ensures)
+    (then (from_place c.lay_word-next-4.ensures)
+    (then (from_place c.lay_word-next-5.ensures)
     (nothing _ _)))))

@@ -1,19 +1,13 @@
--- The three readings.
-use Rattle.text.specs.Binary.{words_of, line_words}
-use Rattle.text.specs.Inner.{reading_bytes}
-use Rattle.numerals.proofs.LawPuts.{from_place, nothing, then}
+-- The three readings, one after the other.
+use Rattle.text.proofs.LawWords.{bits, words_start, readings_step, readings_done}
 use Rattle.text.proofs.words.lay_readings.Goals as goal
 
+pub loop-r-init : goal.loop-r-init
+loop-r-init c = words_start 8 (bits c.args.numbers.now) _ _
+
+pub loop-r-preserved : goal.loop-r-preserved
+loop-r-preserved c =
+    readings_step c.args.numbers.now _ _ _ _ _ c.loop-r.invariant c.loop-r-test.true _ _ (rw c.reading_bits.ensures at c.lay_word-next.ensures)
+
 pub returns : goal.returns
-unfolding reading_bytes words_of line_words
-returns c =
-    let reading_bits_lem = c.reading_bits in
-    let eight-bytes = c.eight_bytes-next in
-    let reading-bits2 = c.reading_bits-2 in
-    let eight-bytes2 = c.eight_bytes-next-2 in
-    let reading-bits3 = c.reading_bits-3 in
-    let eight-bytes3 = c.eight_bytes-next-3 in
-    then (from_place (rw reading_bits_lem.ensures at eight-bytes.ensures))
-    (then (from_place (rw reading-bits2.ensures at eight-bytes2.ensures))
-    (then (from_place (rw reading-bits3.ensures at eight-bytes3.ensures))
-    (nothing _ _)))
+returns c = readings_done c.args.numbers.now _ _ _ _ _ c.loop-r.invariant c.loop-r-test.false c.loop-r.auto.r-end

@@ -1,95 +1,36 @@
 use Prim.Native.Nat.{◌<◌}
 use mathlib.Core.Path.{sym, ◌∙◌}
 use native.Mathlib.Omega.{arith}
+use Rattle.std.proofs.lemmas.Result.{err_from_is_err_and}
 use Rattle.headers.specs.Sheet.{line_count}
 use Rattle.desk.proofs.LawTable.{lines_few}
-use Rattle.text.proofs.LawLinesPut.{written_start, written_length, written_done, written_bad, written_step, never, line_is}
+use Rattle.text.proofs.LawLinesPut.{written_start, written_done, written_bad, written_step, never, line_is, some_or, none_or}
 use Rattle.text.proofs.write.lay_lines.Goals as goal
 
 pub loop-i-init : goal.loop-i-init
 loop-i-init c = written_start _ _ _
 
-pub shape_of-text-in_default : goal.shape_of-text-in_default
-shape_of-text-in_default c = written_length _ _ _ _ _ _ c.loop-i.invariant
-
 pub returns-in_default : goal.returns-in_default
 returns-in_default c =
-    never c.args.sheet.now c.loop-i.i c.requires.0
-    (omega (arith, c.loop-i-test.true, c.line_count-lines.ensures.eq))
+    never c.args.sheet.now c.loop-i.i c.requires.0 (omega (arith, c.loop-i-test.true, c.line_count-i-end.ensures.eq))
     (sym c.sheet_line.ensures ∙ c.in_default.is)
 
-pub lay_line-requires : goal.lay_line-requires
-lay_line-requires c =
-    let few = lines_few c.args.sheet.now c.requires.0 in
-    let inv = c.loop-i.invariant in
-    omega (arith, c.requires.1, inv.ends, inv.few, inv.within, few)
-
-pub overflow_add-result : goal.overflow_add-result
-overflow_add-result c =
-    omega (
-      arith,
-      c.loop-i-test.true,
-      c.line_count-lines.ensures.small,
-    )
-
-pub overflow_cast-result : goal.overflow_cast-result
-overflow_cast-result c =
-    let few = lines_few c.args.sheet.now
-    c.requires.0 in
-    omega (
-      arith,
-      few,
-      c.loop-i-test.true,
-      c.line_count-lines.ensures.eq,
-    )
-
-pub shape_of-text-in_default-lay_line : goal.shape_of-text-in_default-lay_line
-shape_of-text-in_default-lay_line c = omega (arith, c.text-1.given, written_length _ _ _ _ _ _ c.loop-i.invariant)
-
-pub returns-in_default-lay_line : goal.returns-in_default-lay_line
-returns-in_default-lay_line c =
-    let inside : c.loop-i.i < line_count
-    c.args.sheet.now = omega (
-      arith,
-      c.loop-i-test.true,
-      c.line_count-lines.ensures.eq,
-    ) in
-    let same = line_is c.args.sheet.now
-    c.loop-i.i
-    c.requires.0 inside _
-    (sym c.sheet_line.ensures ∙ c.in-There.is) in
-    written_bad _ _ _ _ _ _ c.loop-i.invariant inside (rw (c.in_default-lay_line.is, same) at c.lay_line.ensures)
-
-pub overflow_add-i : goal.overflow_add-i
-overflow_add-i c =
-    omega (
-      arith,
-      c.loop-i-test.true,
-      c.line_count-lines.ensures.small,
-    )
-
-pub loop-i-smaller : goal.loop-i-smaller
-loop-i-smaller c = omega (arith, c.loop-i-test.true)
+pub returns-in_err-next : goal.returns-in_err-next
+returns-in_err-next c =
+    let inside : c.loop-i.i < line_count c.args.sheet.now = omega (arith, c.loop-i-test.true, c.line_count-i-end.ensures.eq) in
+    let same = line_is c.args.sheet.now c.loop-i.i c.requires.0 inside _ (sym c.sheet_line.ensures ∙ c.in-Some.is) in
+    let bad = none_or c.lay_line.result _ _ c.in_err-next.ensures.value in
+    let err = err_from_is_err_and c.from_residual.result c.from_residual.ensures.1 in
+    rw (err.1, err.2, ← bad.1) (written_bad _ _ _ _ _ _ c.loop-i.invariant inside (rw (bad.0, same) at c.lay_line.ensures))
 
 pub loop-i-preserved : goal.loop-i-preserved
 loop-i-preserved c =
-    let inside : c.loop-i.i < line_count
-    c.args.sheet.now = omega (
-      arith,
-      c.loop-i-test.true,
-      c.line_count-lines.ensures.eq,
-    ) in
-    let same = line_is c.args.sheet.now
-    c.loop-i.i
-    c.requires.0 inside _
-    (sym c.sheet_line.ensures ∙ c.in-There.is) in
-    written_step _ _ _ _ _ _ c.loop-i.invariant inside _ _
-    (rw (c.in-Ends.is, same) at c.lay_line.ensures)
-
-pub shape_of-text : goal.shape_of-text
-shape_of-text c = written_length _ _ _ _ _ _ c.loop-i.invariant
+    let inside : c.loop-i.i < line_count c.args.sheet.now = omega (arith, c.loop-i-test.true, c.line_count-i-end.ensures.eq) in
+    let same = line_is c.args.sheet.now c.loop-i.i c.requires.0 inside _ (sym c.sheet_line.ensures ∙ c.in-Some.is) in
+    let ends = some_or c.lay_line.result _ _ c.in_ok-next.ensures.value in
+    written_step _ _ _ _ _ _ c.loop-i.invariant inside _ _ (rw (ends, same) at c.lay_line.ensures)
 
 pub returns : goal.returns
 returns c =
     written_done _ _ _ _ _ _ c.loop-i.invariant (lines_few c.args.sheet.now c.requires.0)
-    (omega (arith, c.loop-i-test.false, c.line_count-lines.ensures.eq))
+    (omega (arith, c.loop-i-test.false, c.line_count-i-end.ensures.eq))

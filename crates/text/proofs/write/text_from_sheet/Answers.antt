@@ -4,12 +4,6 @@ use Rattle.text.proofs.LawConvert.{all_cleared}
 use Rattle.text.proofs.LawSheetText.{wrong_sheet}
 use Rattle.text.proofs.write.text_from_sheet.Goals as goal
 
-pub text_from_right-requires : goal.text_from_right-requires
-text_from_right-requires c = sym c.sheet_ok.ensures ∙ c.if-sheet_ok.true
-
-pub returns-then-sheet_ok : goal.returns-then-sheet_ok
-returns-then-sheet_ok c = c.text_from_right.ensures
-
 pub returns-else-sheet_ok : goal.returns-else-sheet_ok
 returns-else-sheet_ok c =
     all_cleared _ _ _ _ _ _

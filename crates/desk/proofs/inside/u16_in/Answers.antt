@@ -1,8 +1,0 @@
--- The low half, and the high half after it.
-use native.Mathlib.Omega.{arith}
-use Rattle.little.specs.Read.{u16_at}
-use Rattle.desk.proofs.inside.u16_in.Goals as goal
-
-pub returns : goal.returns
-unfolding u16_at
-returns c = record { eq = omega arith; small = omega arith }

@@ -1,8 +1,0 @@
--- By cases on the answer.
-use Rattle.text.proofs.convert.Converted.code.Goals as goal
-
-pub returns-in-Bytes : goal.returns-in-Bytes
-returns-in-Bytes c = rw c.in-Bytes.is
-
-pub returns-in-Refused : goal.returns-in-Refused
-returns-in-Refused c = rw c.in-Refused.is c.code.ensures

@@ -40,6 +40,8 @@ pub enum Refusal {
     Line(LineFault, u16),
 }
 
+// A refusal has a number, a line and a code, so that each is a method by its name and no conversion.
+
 impl FileFault {
     // The number of the broken rule, 1 to 3, 12 or 13.
     pub fn number(self) -> u16

@@ -28,7 +28,7 @@ const MOST_WORDS: usize = 64;
 // The cells of both results: enough for so many sheets of all lines, as the report has them.
 const ROOM: usize = MOST_SHEETS * MOST_CELLS;
 
-// A refusal that is one number.
+// A refusal that is one number, as a bundle's outcomes are.
 fn print_refusal(rt: &impl Print, code: u64) -> Result<(), Unprinted> {
     let mut room = [0u8; MOST_WORDS];
     let mut page = Page::new(&mut room);

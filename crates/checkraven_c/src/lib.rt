@@ -1,4 +1,4 @@
-// The desk for C. A slice is a pointer and then a length.
+// The desk for C. A slice is a pointer and then a length, and each file is a slice of its own.
 #![tactic(auto)]
 
 ghost use Rattle.std.specs.Prelude.{◌≡◌};

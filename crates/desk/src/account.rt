@@ -118,12 +118,7 @@ fn by_row(
     requires { RowThere book.bytes.now line.key i × Admitted line }
     ensures { result ≡ by_row (technique_block book.entry.bytes.now) table.entry.bytes.now line (Hit (row_at book.entry.bytes.now i)) }
 {
-    by_dust(
-        technique_block(book.bytes),
-        table,
-        row_at(book.bytes, i),
-        line,
-    )
+    by_dust(technique_block(book.bytes), table, row_at(book, i), line)
 }
 
 fn by_books(sources: RightSources<'_>, line: Line) -> Result<TableRow, LineFault>

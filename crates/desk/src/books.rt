@@ -85,8 +85,8 @@ pub fn row_bytes<'a>(own: &'a [u8], book: &'a [u8], k: Key) -> &'a [u8]
     }
 }
 
-// Which row that is: one of the own book counts from 1, one of the published book from as many further on as a book has rows at most; 0
-// where there is none.
+// Which row that is, of the same two slices: one of the own book counts from 1, one of the published book from as many further on as a book
+// has rows at most; 0 where there is none.
 #[tactic(auto, unfolding(crate::specs::Books::row_number))]
 pub fn row_number(own: &[u8], book: &[u8], k: Key) -> usize
     ensures { result ≡ row_number own.now book.now k }

@@ -1,5 +1,5 @@
 // Little-endian numbers of a file whose header is right: the bytes are there, so that nothing is tested. `field` counts from `at`, where
-// a row, a line or the file starts.
+// a row, a line or the file starts. Each size is two of the smaller one, which says more than a loop over bytes.
 ghost use Rattle.std.specs.Prelude.{◌≡◌, ◌<◌, ◌≤◌, ◌+◌, length};
 ghost use Rattle.little.specs.Read.{byte_range, u16_range, u32_range, byte_at, u16_at, u32_at, u64_at, Reads};
 

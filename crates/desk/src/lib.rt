@@ -15,6 +15,7 @@ pub mod lent;
 pub mod line;
 mod right;
 mod row;
+mod row_bytes;
 mod run;
 pub mod sheet;
 pub mod table;

@@ -1,16 +1,16 @@
 // The row search: the row with a line's key, or else the one for all scales.
-ghost use Rattle.std.specs.Prelude.{◌≡◌, true, ◌<◌};
+ghost use Rattle.std.specs.Prelude.{◌≡◌, ◌<◌};
 ghost use Rattle.search.specs.First.{Finds, first};
 ghost use Rattle.little.specs.Read.{Reads, u32_range};
 ghost use Rattle.headers.specs.Book.{book_header, row_count};
-ghost use Rattle.desk.specs.Book.{row_start, fields_ok};
-ghost use Rattle.desk.specs.Inner.{counted, RowIn, at_scale, Passed, ReadsRow};
+ghost use Rattle.desk.specs.Inner.{counted, at_scale, Passed, ReadsRow};
 ghost use Rattle.desk.specs.Row.{basis_of, row_has, row_index, row_at};
 
-use super::book::{coefficient_at, row_order, row_start};
+use super::book::row_start;
 use super::inside::{byte_in, u16_in};
 use super::key::{ALL_SCALES, Key};
 use super::right::RightBook;
+use super::row_bytes::RowBytes;
 use headers::book::{ROW_SIZE, row_count, row_offset};
 use search::halving::halved;
 use std::cmp::Ordering;
@@ -56,7 +56,7 @@ fn rows_passed(book: RightBook<'_>, from: usize, rows: usize, k: Key, scale: usi
     halved(
         rows,
         FEW_ROWS,
-        |i| row_order(b, from + ROW_SIZE * i, k, scale).is_lt(),
+        |i| RowBytes::of(b, from + ROW_SIZE * i).order(k, scale).is_lt(),
     )
     .start
 }
@@ -68,7 +68,8 @@ fn index_of(book: RightBook<'_>, k: Key, scale: usize) -> Option<usize>
     let from = row_offset(book.bytes);
     let rows = row_count(book.bytes);
     for i in rows_passed(book, from, rows, k, scale)..rows {
-        match row_order(book.bytes, from + ROW_SIZE * i, k, scale) {
+        let row = RowBytes::of(book.bytes, from + ROW_SIZE * i);
+        match row.order(k, scale) {
             Ordering::Less => {}
             Ordering::Equal => return Some(i),
             Ordering::Greater => return None,
@@ -89,16 +90,17 @@ pub(crate) fn row_index(book: RightBook<'_>, k: Key) -> Option<usize>
 }
 
 #[tactic(auto, unfolding(crate::specs::Row::row_at))]
-pub(crate) fn row_at(b: &[u8], i: usize) -> Row
-    requires { (i < counted) × RowIn b.now (row_start b.now i) × (fields_ok b.now (row_start b.now i) ≡ true) }
-    ensures { ReadsRow result (row_at b.now i) }
+pub(crate) fn row_at(book: RightBook<'_>, i: usize) -> Row
+    requires { i < row_count book.bytes.now }
+    ensures { ReadsRow result (row_at book.entry.bytes.now i) }
 {
-    let at = row_start(b, i);
+    let at = row_start(book.bytes, i);
+    let row = RowBytes::of(book.bytes, at);
     Row {
-        coefficient: coefficient_at(b, at) as u64,
-        basis: Basis::of(byte_in(b, at, 12)),
-        rule: byte_in(b, at, 15),
-        first: u16_in(b, at, 20),
-        techniques: u16_in(b, at, 22),
+        coefficient: row.coefficient() as u64,
+        basis: Basis::of(byte_in(book.bytes, at, 12)),
+        rule: byte_in(book.bytes, at, 15),
+        first: u16_in(book.bytes, at, 20),
+        techniques: u16_in(book.bytes, at, 22),
     }
 }

@@ -1,6 +1,5 @@
 // The desk over the folders of data/: each has a book, a fugitive table and a sheet, which may be typed, or a bundle, and the listing that
 // `make-files` made them from, or what was changed. A works with factors of its own has its own book, too.
-ghost use Rattle.little.specs.Read.{AreBytes};
 
 use desk::lent::Sources;
 use folder::files::{load, room};
@@ -36,9 +35,7 @@ fn path_of<'a>(folder: &str, file: &str, room: &'a mut [u8; MOST_PATH]) -> Optio
 }
 
 // A file that is not there is read as no bytes.
-fn load_from<'a>(rt: &impl Files, folder: &str, file: &str, room: &'a mut [u8]) -> &'a [u8]
-    ensures { AreBytes result.now }
-{
+fn load_from<'a>(rt: &impl Files, folder: &str, file: &str, room: &'a mut [u8]) -> &'a [u8] {
     let mut path = [0u8; MOST_PATH];
     match path_of(folder, file, &mut path) {
         Some(path) => load(rt, path, room),

@@ -1,12 +1,12 @@
 // Files read into lent room. Knows no format.
 ghost use Rattle.std.specs.Prelude.{◌≡◌, ◌≤◌, [], length, OnErr};
-ghost use Rattle.little.specs.Read.{AreBytes};
 
 use std::fs;
 use std::io::{self, Read};
 use std::rt::Files;
 
-// Reads until the room is full, the file ends or a read fails, and answers how many bytes stand at the room's start.
+// Reads until the room is full, the file ends or a read fails, and answers how many bytes stand at the room's start. (After an error the
+// library's `read_to_end` says less of what was read.)
 fn read_full<F: Read>(file: &mut F, room: &mut [u8]) -> usize
     ensures { result ≤ length room.new }
 {
@@ -23,7 +23,6 @@ fn read_full<F: Read>(file: &mut F, room: &mut [u8]) -> usize
 // What could be read of a file into the room; one that could not be opened counts as empty.
 pub fn load_open<'a, F: Read + Drop>(opened: io::Result<F>, room: &'a mut [u8]) -> &'a [u8]
     ensures within { length result.now ≤ length room.old }
-    ensures bytes { AreBytes result.now }
     ensures unopened { OnErr opened (result.now ≡ []) }
 {
     let bytes = match opened {
@@ -35,8 +34,7 @@ pub fn load_open<'a, F: Read + Drop>(opened: io::Result<F>, room: &'a mut [u8]) 
 
 // The same of the file of that name.
 pub fn load<'a>(rt: &impl Files, name: &str, room: &'a mut [u8]) -> &'a [u8]
-    ensures within { length result.now ≤ length room.old }
-    ensures bytes { AreBytes result.now }
+    ensures { length result.now ≤ length room.old }
 {
     load_open(fs::open(rt, name), room)
 }

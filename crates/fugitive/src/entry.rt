@@ -13,7 +13,8 @@ const TAPPING: usize = 16;
 
 const SPILL: usize = 22;
 
-// The factor of a place, whose three begin at `from`, by its grade; 0 where there is no such grade.
+// The factor of a place, whose three begin at `from`, by its grade; 0 where there is no such grade. A grade is whatever number a line has,
+// since rule 15 speaks of those that are none.
 #[tactic(auto, unfolding(crate::specs::Entry::chosen))]
 fn chosen(entry: &[u8], from: usize, grade: usize) -> usize
     requires { from < entry_size }

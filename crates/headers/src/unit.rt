@@ -11,7 +11,7 @@ pub const KILOGRAM: u64 = 100_000_000;
 
 pub const TONNE: u64 = 100_000_000_000;
 
-// Whether a number is the code of a shown unit: 1 gram, 2 kilogram, 3 tonne.
+// Whether a number is the code of a shown unit: 1 gram, 2 kilogram, 3 tonne. Here and below a code is any number, and so no enum.
 pub fn is_unit(code: u64) -> bool
     ensures { result ≡ is_unit code }
 {

@@ -1,4 +1,4 @@
-// Bytes laid into lent ones at a place.
+// Bytes laid into lent ones at a place. The place stays a number beside the lent bytes: it may be any, also one past their end.
 ghost use Rattle.std.specs.Prelude.{◌≡◌, ◌+◌, ◌≤◌, [], ◌∷◌, length};
 ghost use Rattle.numerals.specs.Laid.{laid, Lays};
 

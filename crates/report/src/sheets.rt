@@ -14,6 +14,7 @@ use bundle::header::{MOST_SHEETS, cells_per_sheet, sheet_count};
 use desk::lent::Sources;
 use desk::table::MOST_CELLS;
 use desk::works::declare_bundle;
+use little::read::are_bytes;
 
 // The cells of both results: enough for so many sheets of all lines.
 const ROOM: usize = MOST_SHEETS * MOST_CELLS;
@@ -74,6 +75,7 @@ impl Writer<'_> {
         let mut exact = [0u64; ROOM];
         let mut shown = [0u64; ROOM];
         let mut outcomes = [0u64; MOST_SHEETS];
+        are_bytes(sources.fugitive);
         match declare_bundle(sources, bundle, &mut exact, &mut shown, &mut outcomes) {
             Ok(()) => self.sheets(bundle, &exact, &shown, &outcomes),
             Err(fault) => self.refusal(fault.number() as u64, 0),

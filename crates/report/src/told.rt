@@ -16,6 +16,7 @@ use desk::table::MOST_CELLS;
 use headers::sheet::line_count;
 use headers::unit::unit_of;
 use little::part::part;
+use little::read::are_bytes;
 use text::declare::sources_first;
 use text::read::{MOST_SHEET, sheet_from_text};
 
@@ -56,7 +57,7 @@ impl Writer<'_> {
         self.table(b"shown", shown, lines);
     }
 
-    // The desk's answer to a sheet as one number, and the results as the desk left them.
+    // The desk's answer to a sheet as one number, as a bundle's outcomes are lent, and the results as the desk left them.
     pub(crate) fn answer(&mut self, sheet: &[u8], code: u64, exact: &[u64], shown: &[u64])
         requires { Tellable self.old.at code sheet.now }
         ensures { Adds (answer_text code sheet.now exact.now shown.now) most_text self.old self.new }
@@ -95,11 +96,12 @@ impl Writer<'_> {
     {
         let mut exact = [0u64; MOST_CELLS];
         let mut shown = [0u64; MOST_CELLS];
+        are_bytes(sources.fugitive);
         let outcome = declare(sources, sheet, &mut exact, &mut shown);
         self.answer(sheet, outcome_code(outcome), &exact, &shown);
     }
 
-    // A sheet that was typed is read into bytes that have room for every one.
+    // A sheet that was typed is read into bytes that have room for every one: there is no heap, so that their number says how far it goes.
     pub(crate) fn told_text(&mut self, sources: Sources<'_>, typed: &[u8])
         requires { self.old.at + most_text ≤ reach }
         ensures { Adds (text_report_of (contents sources.entry) typed.now)

@@ -1,4 +1,4 @@
-// Halving: where a test of numbers stops holding.
+// Halving: where a test of numbers stops holding. The library halves slices; the tests here read the bytes of a file where they lie.
 ghost use Rattle.std.specs.Prelude.{ℕ, ◌≤◌, ◌<◌, ◌+◌, ◌≡◌, Bool};
 ghost use Rattle.search.specs.InnerCut.{Cut, Falls};
 

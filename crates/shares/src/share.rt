@@ -37,7 +37,8 @@ pub struct Fraction {
 
 const ONE: Fraction = Fraction { n: 1, d: 1 };
 
-// Kind 1 goes with k rule 1, kind 2 with k rule 2, kind 3 with either, kind 0 with none.
+// Kind 1 goes with k rule 1, kind 2 with k rule 2, kind 3 with either, kind 0 with none. A rule is a number, since `share_by` answers for
+// every one.
 #[tactic(auto, unfolding(crate::specs::Share::goes_with))]
 fn goes_with(reading: Reading, rule: usize) -> bool
     ensures { result ≡ goes_with reading rule }

@@ -33,8 +33,8 @@ fn no_sheet(
 }
 
 // Figures, or one refusal, for books, a fugitive table and a text of any content and results of any size: 1, 13, 12, 3, then the lines.
-// The sheet is read into bytes of its own, which always have room. On refusal every cell of both results is zero; on acceptance the cells
-// past the tables keep their values.
+// The sheet is read into bytes of its own, which always have room; there is no heap, so that their number says how far it goes. On refusal
+// every cell of both results is zero; on acceptance the cells past the tables keep their values.
 pub fn declare_text(
     sources: Sources<'_>,
     text: &[u8],

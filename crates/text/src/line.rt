@@ -23,6 +23,7 @@ const NO_READINGS: Readings = Readings {
     c: 0,
 };
 
+// The kind as a column of a text has it.
 pub(crate) fn kind_number(reading: Reading) -> u64
     ensures { result ≡ kind_number reading }
 {

@@ -14,7 +14,7 @@ use amounts::reading::bits_of_parts;
 use headers::sheet::{HEADER_SIZE, LINE_SIZE};
 use numerals::word::lay_word;
 
-// How many of a, b, c are used.
+// How many of a, b, c are used. A record is its numbers, the kind among them, since the laws of what is read and written speak of these.
 #[tactic(auto, unfolding(crate::specs::Binary::used_readings))]
 fn used_readings(technique: u64, kind: u64) -> usize
     ensures { result ≡ used_readings technique kind }

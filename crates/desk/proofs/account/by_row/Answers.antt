@@ -1,14 +1,10 @@
 -- The row that was found in a right book is a good row.
 use Rattle.desk.proofs.LawRow.{row_below, hit_good, hit_at}
-use Rattle.desk.proofs.LawBook.{good_row_in, row_fields}
 use Rattle.desk.proofs.account.by_row.Goals as goal
 
 pub row_at-requires : goal.row_at-requires
 row_at-requires c =
-    let there = c.requires.0 in
-    let right = c.args.book.right in
-    let below = row_below _ _ _ there.found in
-    (there.small, good_row_in _ right _ below, row_fields _ right _ below)
+    row_below _ _ _ c.requires.0.found
 
 pub by_dust-requires : goal.by_dust-requires
 by_dust-requires c =

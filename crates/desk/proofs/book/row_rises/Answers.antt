@@ -10,4 +10,4 @@ unfolding rises
 returns-then-i-eq0 c = rw (eq-eqb _ _ c.if-i-eq0.true)
 
 pub returns : goal.returns
-returns c = c.is_lt.ensures ∙ rises_by _ _ _ _ c.if-i-eq0.false c.requires.1 c.key_at-key.ensures (sym c.row_order.ensures)
+returns c = c.is_lt.ensures ∙ rises_by _ _ _ _ c.if-i-eq0.false c.requires c.key-key.ensures (rw (c.of-before.ensures.0, c.of-before.ensures.1) at (sym c.order.ensures))

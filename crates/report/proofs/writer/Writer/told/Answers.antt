@@ -11,4 +11,4 @@ pub returns : goal.returns
 unfolding report_of
 returns c =
     let desk = c.declare-outcome.ensures in
-    rw (← desk.demand1.answer) (rw (c.outcome_code.ensures, told_is _ _ _ _ _ _ desk c.args.sources.bytes) at c.answer.ensures)
+    rw (← desk.demand1.answer) (rw (c.outcome_code.ensures, told_is _ _ _ _ _ _ desk c.are_bytes.ensures) at c.answer.ensures)

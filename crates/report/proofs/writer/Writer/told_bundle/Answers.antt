@@ -19,7 +19,7 @@ returns-in-Ok c =
     let desk = c.declare_bundle.ensures in
     let yes = c.in-Ok.is in
     let taken = sym desk.answer ∙ yes in
-    whole_taken _ _ taken (rw (taken_told _ _ _ _ (taken_room _ _ _ _ taken) c.args.sources.bytes (desk.taken yes)) at c.sheets.ensures)
+    whole_taken _ _ taken (rw (taken_told _ _ _ _ (taken_room _ _ _ _ taken) c.are_bytes.ensures (desk.taken yes)) at c.sheets.ensures)
 
 pub returns-in-Err : goal.returns-in-Err
 returns-in-Err c =

@@ -2,7 +2,7 @@
 use mathlib.Core.Path.{◌∙◌}
 use Rattle.search.proofs.LawOrder.{first_differ, first_same, last_decides}
 use Rattle.desk.specs.Key.{key_from}
-use Rattle.desk.proofs.book.rest_order.Goals as goal
+use Rattle.desk.proofs.row_bytes.RowBytes.rest_order.Goals as goal
 
 pub returns-then-medium-k : goal.returns-then-medium-k
 unfolding key_from

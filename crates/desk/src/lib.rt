@@ -9,6 +9,7 @@ pub mod cells;
 pub mod declare;
 mod dust;
 pub mod entries;
+mod halving;
 mod inside;
 pub mod key;
 pub mod lent;

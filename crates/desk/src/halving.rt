@@ -6,7 +6,7 @@ use std::ops::Range;
 
 // Of the numbers below n, those before `start` pass a test that falls, and none from `end` on does. At each turn half of those in between
 // fall away, until no more than `few` are left.
-pub fn halved<F: Fn(usize) -> bool>(n: usize, few: usize, passes: F) -> Range<usize>
+pub(crate) fn halved<F: Fn(usize) -> bool>(n: usize, few: usize, passes: F) -> Range<usize>
     requires { (i : ℕ) → i < n → F.pre passes i }
     ensures cut { (p : ℕ → Bool) → Falls n p → ((i : ℕ) (r : Bool) → i < n → F.post passes i r → r ≡ p i) → Cut n p result.start result.end }
     ensures left { result.end ≤ result.start + few }
@@ -25,7 +25,7 @@ pub fn halved<F: Fn(usize) -> bool>(n: usize, few: usize, passes: F) -> Range<us
 }
 
 // How many of the numbers below n pass a test that falls.
-pub fn passing<F: Fn(usize) -> bool>(n: usize, passes: F) -> usize
+pub(crate) fn passing<F: Fn(usize) -> bool>(n: usize, passes: F) -> usize
     requires { (i : ℕ) → i < n → F.pre passes i }
     ensures { (p : ℕ → Bool) → Falls n p → ((i : ℕ) (r : Bool) → i < n → F.post passes i r → r ≡ p i) → Cut n p result result }
 {

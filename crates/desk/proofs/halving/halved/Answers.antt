@@ -2,7 +2,7 @@ use Prim.Native.Nat.{◌+◌, ◌-◌, ◌/◌}
 use mathlib.Core.Path.{sym, ◌∙◌}
 use native.Mathlib.Omega.{arith}
 use Rattle.search.proofs.LawCut.{cut_low, cut_high}
-use Rattle.search.proofs.halving.halved.Goals as goal
+use Rattle.desk.proofs.halving.halved.Goals as goal
 
 pub loop-high-preserved-then-passes : goal.loop-high-preserved-then-passes
 loop-high-preserved-then-passes g c =

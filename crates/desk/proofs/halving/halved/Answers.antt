@@ -1,3 +1,4 @@
+-- The number in the middle tells which half falls away, and what is left still has the cut.
 use Prim.Native.Nat.{◌+◌, ◌-◌, ◌/◌}
 use mathlib.Core.Path.{sym, ◌∙◌}
 use native.Mathlib.Omega.{arith}

@@ -7,7 +7,7 @@ use native.Mathlib.Nat.{zero-add, add-zero, add-suc, suc-add}
 use native.Mathlib.Numerals.{add-one}
 use native.Mathlib.Omega.{arith}
 use lib.ListN.{length, take, drop, get_or, set, length-append}
-use lib.Seq.{drop-drop, sets-eq, set_out, set_comm, length-sets, length-take-le, take-suc}
+use lib.Seq.{drop-drop, sets-eq, set_out, set_comm, length-sets, length-take-le, take-suc, take_all}
 use borrow.Rule.Slice.PartMut.{put_mid}
 use Rattle.numerals.specs.Laid.{laid, Lays}
 
@@ -69,6 +69,9 @@ pub laid_step : (at i : ℕ) (bytes text : List ℕ) {x : List ℕ} → i < leng
 laid_step at i bytes text h e =
     let size : length (take i bytes) ≡ i = length-take-le i bytes (omega arith) in
     rw (add-one, take-suc bytes i 0 h) (laid_next at (get_or bytes i 0) (take i bytes) text size e)
+
+pub laid_done : (at i : ℕ) (bytes text text' : List ℕ) → text' ≡ laid at (take i bytes) text → length bytes ≤ i → text' ≡ laid at bytes text
+laid_done at i bytes text text' e h = e ∙ ap (λ (b : List ℕ). laid at b text) (take_all i bytes h)
 
 -- ---- a part of the text, stored over
 

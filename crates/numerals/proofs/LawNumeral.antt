@@ -1,14 +1,15 @@
 -- How a loop writes digits, the last first: each turn moves the last digit of what is left in front of those that stand. Assumes nothing.
 use Prim.Native.Nat.{ℕ, zero, suc, ◌-◌, ◌/◌, ◌≤◌, ◌<◌}
 use mathlib.Core.Path.{◌≡◌, refl, ◌∙◌}
+use mathlib.Core.Bool.{true, false, ◌&&◌, and-false}
 use mathlib.Core.List.{List, [], ◌∷◌, ◌++◌, append_assoc, append-nil}
 use native.Mathlib.Numerals.{sub-one}
 use native.Mathlib.Omega.{arith}
-use lib.Dec.{eqb}
+use lib.Dec.{eqb, ltb}
 use lib.ListN.{length, take, drop, set, length-set, length-append, length-drop, drop_of_length-le}
 use lib.Seq.{take_all, drop-cons, get_or-set_same, drop-set-lt}
-use borrow.Author.Tests.{eq-eqb, ne_eqb}
-use Rattle.search.proofs.LawTest.{either_way}
+use borrow.Author.Tests.{lt-ltb, eq-eqb, ne_eqb, ltb-true}
+use Rattle.search.proofs.LawTest.{and_left, either_way, clash}
 use Rattle.numerals.specs.Laid.{Lays}
 use Rattle.numerals.specs.Numeral.{most_digits, zero_digit, digit, significant, numeral}
 use Rattle.numerals.specs.Inner.{Ends}
@@ -26,11 +27,24 @@ unfolding significant
 digits_step zero n t h some l = absurd (omega arith)
 digits_step (suc k) n t h some l = rw (sub-one, ne_eqb n 0 some, stored k (digit n) t (omega arith), append_assoc)
 
--- nothing is left of the number
-pub digits_done : (i n : ℕ) (t : List ℕ) → n ≡ 0 → significant i n ++ drop i t ≡ drop i t
+-- no turn is left: no place, or nothing of the number
+pub digits_done : (i n : ℕ) (t : List ℕ) → (ltb 0 i && ltb 0 n) ≡ false → significant i n ++ drop i t ≡ drop i t
 unfolding significant
-digits_done zero n t none = refl
-digits_done (suc k) n t none = rw (eq-eqb n 0 none)
+digits_done zero n t h = refl
+digits_done (suc k) zero t h = refl
+digits_done (suc k) (suc m) t h =
+    let a : ltb 0 (suc k) ≡ true = lt-ltb 0 (suc k) (omega arith) in
+    let b : ltb 0 (suc m) ≡ true = lt-ltb 0 (suc m) (omega arith) in
+    let both : (true && true) ≡ false = rw (a, b) at h in
+    clash (cc)
+
+-- where a turn is left, so is a place
+pub digits_some : (i n : ℕ) → (ltb 0 i && ltb 0 n) ≡ true → 0 < i
+digits_some i n h = ltb-true 0 i (and_left (ltb 0 i) (ltb 0 n) h)
+
+-- nothing is left of the number
+pub nothing_left : (i n : ℕ) (t : List ℕ) → n ≡ 0 → significant i n ++ drop i t ≡ drop i t
+nothing_left i n t none = digits_done i n t (rw (none, and-false))
 
 pub digits_start : (n : ℕ) (t : List ℕ) → length t ≡ most_digits → significant most_digits n ++ drop most_digits t ≡ significant most_digits n
 digits_start n t h = rw (drop_of_length-le t {i = most_digits} (omega arith), append-nil)

@@ -35,7 +35,8 @@ fn digits(n: u64, tail: &mut [u8]) -> usize
 {
     let mut rest = n;
     for i in (0..MOST_DIGITS).rev() {
-        if rest == 0 {
+        let all_written = rest == 0;
+        if all_written {
             return i + 1;
         }
         tail[i] = last_digit(rest);

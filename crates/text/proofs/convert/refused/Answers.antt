@@ -1,0 +1,6 @@
+-- Every lent byte is cleared, from the first one on.
+use mathlib.Core.Path.{refl}
+use Rattle.text.proofs.convert.refused.Goals as goal
+
+pub returns : goal.returns
+returns c = record { answer = refl; zero = c.fill.ensures.after (λ _ same. same) }

@@ -23,12 +23,19 @@ impl BundleFault {
     }
 }
 
-// The answer as one number: 0 where the bundle is taken. No line of a sheet is meant, so that below the refusal's number there stands 0.
-pub fn bundle_code(outcome: Result<(), BundleFault>) -> u64
-    ensures { result ≡ bundle_code outcome }
+// The refusal's number; 0 where the bundle is taken.
+pub fn bundle_number(outcome: Result<(), BundleFault>) -> u16
+    ensures { result ≡ bundle_number outcome }
 {
     match outcome {
         Ok(()) => 0,
-        Err(fault) => (fault.number() as u64) * NUMBER_UNIT,
+        Err(fault) => fault.number(),
     }
+}
+
+// The answer as one number. No line of a sheet is meant, so that below the refusal's number there stands 0.
+pub fn bundle_code(outcome: Result<(), BundleFault>) -> u64
+    ensures { result ≡ bundle_code outcome }
+{
+    (bundle_number(outcome) as u64) * NUMBER_UNIT
 }

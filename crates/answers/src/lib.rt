@@ -3,4 +3,5 @@
 
 pub mod answer;
 pub mod bundle;
+pub mod outcome;
 pub mod step;

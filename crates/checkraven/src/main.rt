@@ -7,7 +7,9 @@ mod page;
 mod picture;
 mod settled;
 
-ghost use Rattle.std.specs.Prelude.{◌^◌, ◌<◌};
+ghost use Rattle.std.specs.Prelude.{◌^◌, ◌<◌, ◌≤◌, ◌≡◌, length};
+ghost use Rattle.desk.specs.Lent.{contents};
+ghost use Rattle.folder.specs.Given.{given_report, most_given};
 
 use desk::lent::Sources;
 use folder::files::{load, load_open, room};
@@ -60,6 +62,19 @@ fn load_own<'a>(rt: &impl Files, room: &'a mut [u8]) -> &'a [u8] {
     load_open(file, room)
 }
 
+// All of the report, which a text of that size always has room for.
+fn all_of_report<'a>(
+    given: Given,
+    sources: Sources<'_>,
+    file: &[u8],
+    text: &'a mut [u8],
+) -> &'a [u8]
+    requires { most_given given ≤ length text.old }
+    ensures { result.now ≡ given_report given (contents sources.entry) file.now }
+{
+    whole_report(given, sources, file, text)
+}
+
 // In room for N bytes, as many as a report of the given kind has at most.
 fn print_report<const N: usize>(
     rt: &impl Print,
@@ -67,10 +82,11 @@ fn print_report<const N: usize>(
     sources: Sources<'_>,
     file: &[u8],
 ) -> Result<(), Unprinted>
-    requires { N < 2 ^ 63 }
+    requires lent { N < 2 ^ 63 }
+    requires enough { most_given given ≤ N }
 {
     let mut text = room::<N>();
-    print(rt, whole_report(given, sources, file, &mut text))
+    print(rt, all_of_report(given, sources, file, &mut text))
 }
 
 fn print_figures(

@@ -57,13 +57,13 @@ fn run(rt: &(impl Files + Print), given: Given, folder: &str) {
     let mut content = [0u8; MOST_BYTES];
     let mut text = room::<MOST_BUNDLE_TEXT>();
     let file = name_of(given);
-    let _ = println!(rt; "run {folder}/{file}");
     let sources = Sources {
         own: load_own(rt, folder, &mut own),
         book: load_from(rt, folder, "book.bin", &mut book),
         fugitive: load_from(rt, folder, "fugitive.bin", &mut fugitive),
     };
     let content = load_from(rt, folder, file, &mut content);
+    let _ = println!(rt; "run {folder}/{file}");
     let _ = rt.write_all(whole_report(given, sources, content, &mut text));
 }
 

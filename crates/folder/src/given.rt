@@ -1,5 +1,5 @@
 // What the desk is given beside the sources, and the report of it.
-ghost use Rattle.std.specs.Prelude.{◌≡◌, length};
+ghost use Rattle.std.specs.Prelude.{◌≡◌, ◌≤◌, length};
 ghost use Rattle.desk.specs.Lent.{contents};
 ghost use Rattle.report.specs.Report.{Wrote};
 ghost use Rattle.folder.specs.Given.{given_report, most_given, whole_in};
@@ -32,14 +32,17 @@ pub fn report_given(
     }
 }
 
-// The report itself, at the start of a text of any size; nothing where the text has no room for all of it.
+// The report itself, at the start of a text of any size; nothing where the text has no room for all of it, which one of as many bytes as
+// such a report has at most always has.
 pub fn whole_report<'a>(
     given: Given,
     sources: Sources<'_>,
     file: &[u8],
     text: &'a mut [u8],
 ) -> &'a [u8]
-    ensures { result.now ≡ whole_in (given_report given (contents sources.entry) file.now) (length text.old) }
+    ensures whole { result.now ≡ whole_in (given_report given (contents sources.entry) file.now) (length text.old) }
+    ensures always { most_given given ≤ length text.old
+        → result.now ≡ given_report given (contents sources.entry) file.now }
 {
     match report_given(given, sources, file, text) {
         Ok(bytes) => &text[..bytes],

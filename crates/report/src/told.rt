@@ -9,6 +9,7 @@ ghost use Rattle.numerals.specs.Laid.{reach};
 
 use super::writer::Writer;
 use answers::answer::{NUMBER_UNIT, Refusal, outcome_code};
+use answers::outcome::{outcome_line, outcome_number};
 use desk::cells::COLUMNS;
 use desk::declare::declare;
 use desk::lent::Sources;
@@ -82,10 +83,7 @@ impl Writer<'_> {
         requires { self.old.at + most_text ≤ reach }
         ensures { Adds (refused_text outcome) most_text self.old self.new }
     {
-        match outcome {
-            Ok(()) => self.refusal(0, 0),
-            Err(refusal) => self.refusal(refusal.number() as u64, refusal.line() as u64),
-        }
+        self.refusal(outcome_number(outcome) as u64, outcome_line(outcome) as u64);
     }
 
     // The desk is lent results with room for every sheet.

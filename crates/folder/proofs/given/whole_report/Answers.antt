@@ -1,11 +1,20 @@
+-- All of the report is handed back, or nothing; and a text with room for any such report always has room for this one.
+use Rattle.search.proofs.LawTest.{clash}
+use Rattle.report.proofs.LawReported.{always_room, bytes_are}
 use Rattle.folder.proofs.LawWhole.{all_told, size_told, none_told}
 use Rattle.folder.proofs.given.whole_report.Goals as goal
 
 pub slice_bounds-result-end : goal.slice_bounds-result-end
 slice_bounds-result-end c = size_told _ _ _ _ _ c.in-Ok.ensures
 
-pub returns-in-Ok : goal.returns-in-Ok
-returns-in-Ok c = all_told _ _ _ _ _ c.in-Ok.ensures
+pub returns-in-Ok-clause-whole : goal.returns-in-Ok-clause-whole
+returns-in-Ok-clause-whole c = all_told _ _ _ _ _ c.in-Ok.ensures
 
-pub returns-in-Err : goal.returns-in-Err
-returns-in-Err c = none_told _ _ _ _ _ c.in-Err.ensures
+pub returns-in-Ok-clause-always : goal.returns-in-Ok-clause-always
+returns-in-Ok-clause-always c roomy = bytes_are _ _ _ _ _ c.in-Ok.ensures
+
+pub returns-in-Err-clause-whole : goal.returns-in-Err-clause-whole
+returns-in-Err-clause-whole c = none_told _ _ _ _ _ c.in-Err.ensures
+
+pub returns-in-Err-clause-always : goal.returns-in-Err-clause-always
+returns-in-Err-clause-always c roomy = clash (cc (always_room _ _ _ _ _ c.in-Err.ensures roomy))

@@ -13,11 +13,14 @@ pub(crate) fn lay_one(text: &mut [u8], at: usize, i: usize, byte: u8)
     }
 }
 
+// Byte by byte: `copy_from_slice` is a call of `memmove`, which whoever links the library would have to bring.
 fn lay_all(text: &mut [u8], at: usize, bytes: &[u8])
     requires { at + length bytes.now ≤ length text.old }
     ensures { text.new ≡ laid at bytes.now text.old }
 {
-    text[at..at + bytes.len()].copy_from_slice(bytes);
+    for (i, byte) in bytes.iter().enumerate() {
+        text[at + i] = *byte;
+    }
 }
 
 // The same as `lay`, with a test for each byte: of a few bytes, whose number is not known when this is compiled, it is the faster way.

@@ -1,10 +1,20 @@
-// What is done to every cell: mirrored, divided.
-ghost use Rattle.std.specs.Prelude.{◌+◌, ◌-◌, ◌*◌, ◌<◌, ◌≡◌};
+// What is done to every cell: copied, mirrored, divided.
+ghost use Rattle.std.specs.Prelude.{◌+◌, ◌-◌, ◌*◌, ◌<◌, ◌≡◌, length};
 ghost use Rattle.settle.specs.Inner.{Bounded, Written};
 ghost use Rattle.settle.specs.Step as spec;
 
 use crate::unit::by_unit;
 use crate::{Grid, LIMIT};
+
+// Cell by cell: `copy_from_slice` is a call of `memmove`, which whoever links the library would have to bring.
+pub(crate) fn copy(from: &[u64], t: &mut [u64])
+    requires { length t.old ≡ length from.now }
+    ensures { t.new ≡ from.now }
+{
+    for i in 0..t.len() {
+        t[i] = from[i];
+    }
+}
 
 // Above the last row only column 0 has a minus sign, so no other cell is touched; nor is the first cell of the last row.
 fn mirror_above(t: &mut [u64], grid: Grid)

@@ -15,7 +15,7 @@ mod settling;
 mod table;
 mod unit;
 
-use cells::{divide, mirror};
+use cells::{copy, divide, mirror};
 use settling::settle;
 use table::is_good;
 
@@ -104,7 +104,7 @@ fn step_in(grid: Grid, times: usize, table: &[u64], t: &mut [u64]) -> usize
     requires { Lent grid table.now t.old }
     ensures { Steps (spec.step grid) grid.unit times table.now t.new result }
 {
-    t.copy_from_slice(table);
+    copy(table, t);
     mirror(t, grid);
     let steps = settle(t, grid, times);
     mirror(t, grid);

@@ -4,12 +4,12 @@ use Rattle.settle.proofs.step_in.Goals as goal
 
 pub settle-steps-requires : goal.settle-steps-requires
 settle-steps-requires c =
-    mirror_table c.requires.good c.copy_from_slice.ensures.after c.mirror.ensures
+    mirror_table c.requires.good c.copy.ensures c.mirror.ensures
 
 pub mirror-requires-2 : goal.mirror-requires-2
 mirror-requires-2 c =
-    stepped_bounded c.requires.good c.copy_from_slice.ensures.after c.mirror.ensures c.settle-steps.ensures
+    stepped_bounded c.requires.good c.copy.ensures c.mirror.ensures c.settle-steps.ensures
 
 pub returns : goal.returns
 returns c =
-    stepped_back c.requires.good c.copy_from_slice.ensures.after c.mirror.ensures c.settle-steps.ensures c.mirror-2.ensures
+    stepped_back c.requires.good c.copy.ensures c.mirror.ensures c.settle-steps.ensures c.mirror-2.ensures

@@ -5,6 +5,7 @@ ghost use Rattle.report.specs.Inner.{Finished, Adds};
 ghost use Rattle.numerals.specs.Laid.{reach};
 
 use super::NoRoom;
+use little::cells::clear;
 use numerals::bytes::lay;
 use numerals::number::{MOST_DIGITS, decimal};
 
@@ -50,7 +51,7 @@ impl<'a> Writer<'a> {
         if at <= text.len() {
             Ok(at)
         } else {
-            text.fill(0);
+            clear(text);
             Err(NoRoom)
         }
     }

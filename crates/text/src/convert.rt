@@ -4,6 +4,7 @@ ghost use Rattle.text.specs.Convert.{converted_code};
 ghost use Rattle.text.specs.Inner.{Finished, RefusedAll};
 
 use answers::answer::{FileFault, Refusal};
+use little::cells::clear;
 
 // The answer as one number: the bytes; or the refusal's number times 65,536, and its line.
 pub fn converted_code(converted: Result<usize, Refusal>) -> u64
@@ -18,7 +19,7 @@ pub fn converted_code(converted: Result<usize, Refusal>) -> u64
 pub(crate) fn refused(bytes: &mut [u8], refusal: Refusal) -> Result<usize, Refusal>
     ensures { RefusedAll refusal bytes.old result bytes.new }
 {
-    bytes.fill(0);
+    clear(bytes);
     Err(refusal)
 }
 

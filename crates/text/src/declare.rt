@@ -8,6 +8,7 @@ use answers::answer::Refusal;
 use desk::declare::declare;
 use desk::lent::Sources;
 use desk::table::by_sources;
+use little::cells::clear;
 use little::part::part;
 
 // Rules 1 and 13 come before what is wrong with the text.
@@ -27,8 +28,8 @@ fn no_sheet(
     ensures { NoSheet (contents sources.entry) refusal
         exact.old shown.old result exact.new shown.new }
 {
-    exact.fill(0);
-    shown.fill(0);
+    clear(exact);
+    clear(shown);
     sources_first(sources, Err(refusal))
 }
 

@@ -3,4 +3,4 @@ use mathlib.Core.Path.{refl}
 use Rattle.text.proofs.convert.refused.Goals as goal
 
 pub returns : goal.returns
-returns c = record { answer = refl; zero = c.fill.ensures.after (λ _ same. same) }
+returns c = record { answer = refl; zero = c.clear.ensures 0 (λ x e. e) }

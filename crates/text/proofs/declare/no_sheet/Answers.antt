@@ -4,6 +4,6 @@ use Rattle.text.proofs.declare.no_sheet.Goals as goal
 pub returns : goal.returns
 returns c = record {
   answer = c.sources_first.ensures;
-  exact_zero = c.fill.ensures.after (λ _ same. same);
-  shown_zero = c.fill-2.ensures.after (λ _ same. same);
+  exact_zero = c.clear.ensures 0 (λ x e. e);
+  shown_zero = c.clear-2.ensures 0 (λ x e. e);
 }

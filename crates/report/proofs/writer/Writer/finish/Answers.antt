@@ -18,6 +18,6 @@ returns c =
           (record {
             answer = rw (lt-leb _ _ w.if-at-text.false);
             all = λ l. absurd (omega (arith, l, w.if-at-text.false));
-            none = λ _. w.fill.ensures.after (λ _ same. same);
+            none = λ _. w.clear.ensures 0 (λ x e. e);
           })
     ]

@@ -11,7 +11,7 @@ use lib.Dec.{ltb, eqb}
 use Rattle.std.specs.Prelude.{Some, None}
 use Rattle.little.specs.Read.{u16_at}
 use Rattle.search.specs.First.{first}
-use Rattle.search.specs.InnerCut.{Falls}
+use Rattle.search.specs.Cut.{Falls}
 use Rattle.search.specs.InnerOrder.{list_order}
 use Rattle.std.specs.Ordering.{ordering_then, is_lt, is_eq}
 use Rattle.search.specs.Test.{every}

@@ -5,7 +5,7 @@ use mathlib.Core.Path.{◌≡◌}
 use mathlib.Core.List.{List}
 use native.Mathlib.Omega.{arith}
 use borrow.Author.Tests.{lt-ltb, ltb-true, ltb-false, ne_eqb}
-use Rattle.search.specs.InnerCut.{Falls}
+use Rattle.search.specs.Cut.{Falls}
 use Rattle.desk.specs.Book.{technique_code}
 use Rattle.desk.specs.Technique.{technique_has}
 use Rattle.desk.specs.Inner.{Listed, code_below}

@@ -17,7 +17,7 @@ use std::cmp::Ordering;
 // A thousandth of kg/t is so many units per kilogram.
 pub const UNITS_PER_FACTOR: u64 = 100;
 
-// Entries rise, so that half of those in question fall away at each turn. Counting those before the key by `halving` was tried: it
+// Entries rise, so that half of those in question fall away at each turn. Counting those before the key by `search::halving` was tried: it
 // does not stop where it meets the entry, and a full sheet of dust took 2.7 % more instructions.
 fn entry_at_scale(table: RightTable<'_>, k: Key, scale: usize) -> Option<usize>
     requires { OfDust k }

@@ -9,7 +9,6 @@ pub mod cells;
 pub mod declare;
 mod dust;
 pub mod entries;
-mod halving;
 mod inside;
 pub mod key;
 pub mod lent;

@@ -7,12 +7,12 @@ ghost use Rattle.desk.specs.Inner.{counted, at_scale, Passed, ReadsRow};
 ghost use Rattle.desk.specs.Row.{basis_of, row_has, row_index, row_at};
 
 use super::book::row_start;
-use super::halving::halved;
 use super::inside::{byte_in, u16_in};
 use super::key::{ALL_SCALES, Key};
 use super::right::RightBook;
 use super::row_bytes::RowBytes;
 use headers::book::{ROW_SIZE, row_count, row_offset};
+use search::halving::halved;
 use std::cmp::Ordering;
 
 // What a row's coefficient is multiplied with: kilograms of product or of material.

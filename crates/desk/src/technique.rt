@@ -1,6 +1,6 @@
 // The technique search. It is handed the technique block alone.
 ghost use Rattle.std.specs.Prelude.{◌<◌, ◌≤◌, ◌+◌, ◌*◌, length};
-ghost use Rattle.search.specs.InnerCut.{Cut};
+ghost use Rattle.search.specs.Cut.{Cut};
 ghost use Rattle.search.specs.First.{Finds};
 ghost use Rattle.little.specs.Read.{Reads};
 ghost use Rattle.headers.specs.Book.{technique_size};
@@ -8,10 +8,10 @@ ghost use Rattle.desk.specs.Book.{technique_code, technique_efficiency};
 ghost use Rattle.desk.specs.Inner.{Listed, code_below, counted};
 ghost use Rattle.desk.specs.Technique.{technique_index};
 
-use super::halving::passing;
 use super::inside::u16_in;
 use headers::book::TECHNIQUE_SIZE;
 use little::read::u16_at;
+use search::halving::passing;
 
 // How many of the techniques of a list have a lower code: codes rise.
 fn codes_below(t: &[u8], from: usize, count: usize, code: usize) -> usize

@@ -5,7 +5,7 @@ use mathlib.Core.Bool.{Bool, true, false}
 use mathlib.Core.Logic.{◌⊎◌, inl, inr, ⊎_elim}
 use native.Mathlib.Nat.{eq-or-lt_of_le, le_of_suc-le-suc}
 use native.Mathlib.Omega.{arith}
-use Rattle.search.specs.InnerCut.{Cut, Falls}
+use Rattle.search.specs.Cut.{Cut, Falls}
 use Rattle.search.specs.First.{first}
 use Rattle.std.specs.Prelude.{Some, None}
 use Rattle.search.proofs.LawTest.{either_way}

@@ -2,8 +2,8 @@
 use Prim.Native.Nat.{ℕ, ◌-◌, ◌≤◌, ◌<◌}
 use mathlib.Core.Path.{◌≡◌}
 use mathlib.Core.Bool.{Bool}
-use Rattle.search.specs.InnerCut.{Cut, Falls}
-use Rattle.desk.proofs.halving.halved.Given as goal
+use Rattle.search.specs.Cut.{Cut, Falls}
+use Rattle.search.proofs.halving.halved.Given as goal
 
 abbrev pub invariant-loop-high : goal.invariant-loop-high
 invariant-loop-high g l =
